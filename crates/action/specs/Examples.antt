@@ -1,0 +1,63 @@
+-- The worked examples, as one table, and the lemma that each of its lines holds, which the checker computes.
+use Prim.Native.Nat.{ℕ}
+use mathlib.Core.Path.{_≡_, refl}
+use mathlib.Core.Bool.{Bool, true, false, _&&_, Bool·beq}
+use mathlib.Core.List.{List, [], _∷_}
+use lib.Dec.{eqb}
+use lib.IntN.{ℤ, pos, negsuc}
+use lib.ListN.{length}
+use Rattle.pauli_word.specs.Word.{I, X, Z, Word, same, weight}
+use Rattle.action.specs.Lists.{every, count}
+use Rattle.action.specs.Permutation.{Generator}
+use Rattle.action.specs.Lattice.{chain, torus2}
+use Rattle.action.specs.Orbit.{least, indexBack, orbitSize}
+use Rattle.action.specs.Sector.{keeps}
+use Rattle.action.specs.Count.{allWords, representatives}
+
+-- two generators, each the swap of two sites
+unfoldable pub swaps : List Generator
+swaps = swap ∷ swap ∷ []
+  where
+    swap : Generator
+    swap = record { perm = 1 ∷ 0 ∷ []; order = 2 }
+
+pub data Example : Type 0 where
+  -- group, word and modes; then least word, index, orbit size, weight, and whether the modes keep the word
+  line : List Generator → Word → List ℤ → Word → ℕ → ℕ → ℕ → Bool → Example
+  -- group, site count and modes; then how many representatives they keep
+  kept : List Generator → ℕ → List ℤ → ℕ → Example
+  -- site count; then how many words there are
+  words : ℕ → ℕ → Example
+
+abbrev pub table : List Example
+table =
+    line (chain 4) (X ∷ I ∷ I ∷ I ∷ []) (pos 1 ∷ []) (I ∷ I ∷ I ∷ X ∷ []) 1 4 1 true
+    ∷ line (chain 4) (X ∷ I ∷ X ∷ I ∷ []) (pos 1 ∷ []) (I ∷ X ∷ I ∷ X ∷ []) 3 2 2 false
+    ∷ line (chain 4) (X ∷ I ∷ X ∷ I ∷ []) (negsuc 1 ∷ []) (I ∷ X ∷ I ∷ X ∷ []) 3 2 2 true
+    ∷ line (chain 4) (I ∷ I ∷ I ∷ I ∷ []) (negsuc 3 ∷ []) (I ∷ I ∷ I ∷ I ∷ []) 0 1 0 true
+    ∷ line (chain 4) (I ∷ I ∷ I ∷ I ∷ []) (pos 1 ∷ []) (I ∷ I ∷ I ∷ I ∷ []) 0 1 0 false
+    ∷ line (chain 2) (X ∷ Z ∷ []) (pos 0 ∷ []) (Z ∷ X ∷ []) 1 2 2 true
+    ∷ kept (chain 2) 2 (pos 0 ∷ []) 10
+    ∷ kept (chain 2) 2 (pos 1 ∷ []) 6
+    ∷ line (torus2 2 2) (X ∷ I ∷ I ∷ I ∷ []) (pos 0 ∷ pos 0 ∷ []) (I ∷ I ∷ I ∷ X ∷ []) 3 4 1 true
+    ∷ line (torus2 2 2) (X ∷ X ∷ I ∷ I ∷ []) (pos 0 ∷ pos 1 ∷ []) (I ∷ I ∷ X ∷ X ∷ []) 2 2 2 true
+    ∷ line (torus2 2 2) (X ∷ X ∷ I ∷ I ∷ []) (pos 1 ∷ pos 0 ∷ []) (I ∷ I ∷ X ∷ X ∷ []) 2 2 2 false
+    ∷ line swaps (X ∷ I ∷ []) (pos 0 ∷ pos 0 ∷ []) (I ∷ X ∷ []) 1 2 1 true
+    ∷ line swaps (X ∷ I ∷ []) (pos 0 ∷ pos 1 ∷ []) (I ∷ X ∷ []) 1 2 1 false
+    ∷ line swaps (X ∷ I ∷ []) (pos 1 ∷ pos 0 ∷ []) (I ∷ X ∷ []) 1 2 1 false
+    ∷ line swaps (X ∷ I ∷ []) (pos 1 ∷ pos 1 ∷ []) (I ∷ X ∷ []) 1 2 1 true
+    ∷ line [] [] [] [] 0 1 0 true
+    ∷ words 0 1
+    ∷ []
+
+unfoldable pub holds : Example → Bool
+unfolding least indexBack orbitSize weight keeps count representatives allWords
+holds (line gs w ks v i s k b) =
+    same (least gs w) v && eqb (indexBack gs w) i && eqb (orbitSize gs w) s && eqb (weight w) k && Bool·beq (keeps gs ks w) b
+holds (kept gs n ks k) = eqb (count (keeps gs ks) (representatives gs n)) k
+holds (words n k) = eqb (length (allWords n)) k
+
+-- every line of the table holds
+pub examples : every holds table ≡ true
+unfolding every holds swaps chain torus2
+examples = refl

@@ -1,0 +1,45 @@
+-- Characters of the group, and which words a list of modes keeps.
+use Prim.Native.Nat.{ℕ, _+_, _-_, _*_, _/_, _%_}
+use mathlib.Core.Bool.{Bool, _||_, not}
+use mathlib.Core.List.{List, [], _∷_, map}
+use lib.Dec.{eqb}
+use lib.IntN.{ℤ, pos, negsuc}
+use Rattle.pauli_word.specs.Word.{Word}
+use Rattle.action.specs.Arithmetic.{lcmAll}
+use Rattle.action.specs.Lists.{below, every}
+use Rattle.action.specs.Permutation.{Generator}
+use Rattle.action.specs.Index.{orderOf, digits}
+use Rattle.action.specs.Orbit.{fixes}
+
+-- the phase modulus: the least common multiple of the orders
+unfoldable pub modulus : List Generator → ℕ
+unfolding lcmAll
+modulus gs = lcmAll (map (λ g. g .order) gs)
+
+-- a mode, a signed number, reduced to 0 .. o - 1: -1 becomes o - 1
+unfoldable pub reduced : ℕ → ℤ → ℕ
+reduced o (pos k) = k % o
+reduced o (negsuc k) = o - 1 - k % o
+
+-- the sum of (k c mod o) (m / o) over the generators, for a common multiple m of the orders
+unfoldable pub phases : ℕ → List Generator → List ℤ → List ℕ → ℕ
+unfolding reduced
+phases m [] ks cs = 0
+phases m (g ∷ gs) [] cs = 0
+phases m (g ∷ gs) (k ∷ ks) [] = 0
+phases m (g ∷ gs) (k ∷ ks) (c ∷ cs) = reduced (g .order) k * (c % g .order) % g .order * (m / g .order) + phases m gs ks cs
+
+-- the numerator of a counter: its character under the modes is numerator / modulus of a turn
+unfoldable pub numerator : List Generator → List ℤ → List ℕ → ℕ
+unfolding phases modulus
+numerator gs ks cs = phases (modulus gs) gs ks cs % modulus gs
+
+-- whether the character of index i is 1
+unfoldable pub trivial : List Generator → List ℤ → ℕ → Bool
+unfolding numerator digits
+trivial gs ks i = eqb (numerator gs ks (digits gs i)) 0
+
+-- whether the modes keep w: every index that fixes it has numerator 0. Else they drop it
+unfoldable pub keeps : List Generator → List ℤ → Word → Bool
+unfolding every fixes trivial below orderOf
+keeps gs ks w = every (λ i. not (fixes gs w i) || trivial gs ks i) (below (orderOf gs))
