@@ -1,5 +1,15 @@
--- The laws of the definitions, each file above those that it uses.
+-- The laws of the definitions, each file above those that it uses. `Theorems` states what is proved, and is the one to read.
 pub mod Arithmetic
 pub mod Lists
 pub mod Order
 pub mod Move
+pub mod Index
+pub mod Reach
+pub mod Canonical
+pub mod Stabilizer
+pub mod Annihilators
+pub mod Characters
+pub mod Kept
+pub mod Pairs
+pub mod Lattice
+pub mod Theorems

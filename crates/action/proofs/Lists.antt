@@ -1,19 +1,20 @@
 -- Members of lists, lists without repeats, and counting.
 -- The fact that carries the counting: a list without repeats is no longer than a list that holds its members (`length-le`).
 use Prim.Native.Nat.{ℕ, zero, suc, _+_, _*_, _≤_, _<_}
-use native.Mathlib.Nat.{le-antisymm, eq-or-lt-of-le}
+use native.Mathlib.Nat.{le-antisymm, eq-or-lt-of-le, not-suc-le-zero}
 use native.Mathlib.Omega.{arith}
 use mathlib.Core.Path.{_≡_, refl, sym, _∙_, ap, ap₂, subst}
 use mathlib.Core.Logic.{_⊎_, inl, inr, ⊎-elim}
 use mathlib.Core.Bool.{Bool, true, false, cond, and-eq-true-iff}
 use mathlib.Core.List.{List, [], _∷_, _++_, map, head-eq-of-cons-eq, tail-eq-of-cons-eq}
 use lib.ListN.{length, length-map}
-use Rattle.action.specs.Lists.{from, below, Member, select, count, every, total, prefixed, choices}
+use Rattle.action.specs.Lists.{from, below, Member, select, count, every, total, prefixed, choices, NoRepeats}
 
--- no member stands twice
-abbrev pub NoRepeats : {A : Type 0} → List A → Type 0
-NoRepeats [] = Unit {0}
-NoRepeats (a ∷ xs) = (Member a xs → ⊥) × NoRepeats xs
+-- tests that hold together are the same
+pub bool-ext : (a b : Bool) → (a ≡ true → b ≡ true) → (b ≡ true → a ≡ true) → a ≡ b
+bool-ext true b f g = sym (f refl)
+bool-ext false true f g = g refl
+bool-ext false false f g = refl
 
 -- the numbers below n
 
@@ -69,7 +70,9 @@ module _ {A : Type 0} where
   of-member-append (b ∷ xs) ys a (inl e) = inl (inl e)
   of-member-append (b ∷ xs) ys a (inr h) = ⊎-elim (λ k. inl (inr k)) (λ k. inr k) (of-member-append xs ys a h)
 
-  pub noRepeats-append : (xs ys : List A) → NoRepeats xs → NoRepeats ys → ((a : A) → Member a xs → Member a ys → ⊥) → NoRepeats (xs ++ ys)
+  pub noRepeats-append :
+      (xs ys : List A) → NoRepeats xs → NoRepeats ys
+      → ((a : A) → Member a xs → Member a ys → ⊥) → NoRepeats (xs ++ ys)
   noRepeats-append [] ys u v apart = v
   noRepeats-append (b ∷ xs) ys u v apart =
       (λ h. ⊎-elim (u .0) (apart b (inl refl)) (of-member-append xs ys b h), noRepeats-append xs ys (u .1) v (λ a h. apart a (inr h)))
@@ -166,8 +169,29 @@ module _ {A : Type 0} where
   pub count-true : (xs : List A) → count (λ a. true) xs ≡ length xs
   count-true xs = rw count-total (total-const 1 xs ∙ omega arith)
 
+  pub count-false : (xs : List A) → count (λ a. false) xs ≡ 0
+  count-false xs = rw count-total (total-const 0 xs ∙ omega arith)
+
   pub count-append : (p : A → Bool) (xs ys : List A) → count p (xs ++ ys) ≡ count p xs + count p ys
   count-append p xs ys = simp (count-total, total-append)
+
+  -- a count is positive exactly if a member passes
+  pub count-pos : (p : A → Bool) (xs : List A) (a : A) → Member a xs → p a ≡ true → 0 < count p xs
+  unfolding count
+  count-pos p [] a h e = absurd h
+  count-pos p (b ∷ xs) a (inl k) e = rw (sym (ap p k) ∙ e) (omega arith)
+  count-pos p (b ∷ xs) a (inr h) e = let k : 0 < count p xs = count-pos p xs a h e in omega arith
+
+  pub of-count-pos : (p : A → Bool) (xs : List A) → 0 < count p xs → (a : A) × Member a xs × (p a ≡ true)
+  unfolding count
+  of-count-pos p [] h = absurd (not-suc-le-zero h)
+  of-count-pos p (a ∷ xs) h = split (p a) refl h (of-count-pos p xs)
+    where
+      split :
+          (t : Bool) → p a ≡ t → 0 < cond t 1 0 + count p xs → (0 < count p xs → (b : A) × Member b xs × (p b ≡ true))
+          → (b : A) × Member b (a ∷ xs) × (p b ≡ true)
+      split true e k later = (a, inl refl, e)
+      split false e k later = let r : (b : A) × Member b xs × (p b ≡ true) = later (omega arith) in (r .0, inr (r .1), r .2)
 
 module _ {A B : Type 0} where
   pub total-map : (f : B → ℕ) (g : A → B) (xs : List A) → total f (map g xs) ≡ total (λ a. f (g a)) xs
@@ -184,7 +208,9 @@ module _ {A B : Type 0} where
   total-swap f [] ys = sym (total-const 0 ys ∙ omega arith)
   total-swap f (a ∷ xs) ys = ap (λ (n : ℕ). total (f a) ys + n) (total-swap f xs ys) ∙ sym (total-add (f a) (λ b. total (λ c. f c b) xs) ys)
 
-  pub total-count-swap : (r : A → B → Bool) (xs : List A) (ys : List B) → total (λ a. count (r a) ys) xs ≡ total (λ b. count (λ a. r a b) xs) ys
+  pub total-count-swap :
+      (r : A → B → Bool) (xs : List A) (ys : List B)
+      → total (λ a. count (r a) ys) xs ≡ total (λ b. count (λ a. r a b) xs) ys
   total-count-swap r xs ys = simp count-total (total-swap (λ a b. cond (r a b) 1 0) xs ys)
 
   pub member-map : (f : A → B) (xs : List A) (a : A) → Member a xs → Member (f a) (map f xs)
@@ -245,7 +271,8 @@ module _ {A B : Type 0} where
       → ((a : A) → Member a xs → p a ≡ true → Member (f a) ys × (q (f a) ≡ true) × (g (f a) ≡ a))
       → count p xs ≤ count q ys
   count-le xs ys p q f g u h =
-      omega (arith, length-le (map f (select p xs)) (select q ys) apart into, length-map (select p xs) f, count-select p xs, count-select q ys)
+      let l : length (map f (select p xs)) ≤ length (select q ys) = length-le (map f (select p xs)) (select q ys) apart into in
+      omega (arith, length-map (select p xs) f, count-select p xs, count-select q ys)
     where
       image : (a : A) → Member a (select p xs) → Member (f a) ys × (q (f a) ≡ true) × (g (f a) ≡ a)
       image a m = let k : Member a xs × (p a ≡ true) = of-member-select p xs a m in h a (k .0) (k .1)
@@ -286,7 +313,8 @@ module _ {A : Type 0} where
   member-prefixed (b ∷ c) ts a t (inl e) k =
       member-append-left (map (λ s. b ∷ s) ts) (prefixed c ts) (a ∷ t)
       (rw e (member-map (λ s. b ∷ s) ts t k))
-  member-prefixed (b ∷ c) ts a t (inr h) k = member-append-right (map (λ s. b ∷ s) ts) (prefixed c ts) (a ∷ t) (member-prefixed c ts a t h k)
+  member-prefixed (b ∷ c) ts a t (inr h) k =
+      member-append-right (map (λ s. b ∷ s) ts) (prefixed c ts) (a ∷ t) (member-prefixed c ts a t h k)
 
   of-member-prefixed :
       (c : List A) (ts : List (List A)) (s : List A) → Member s (prefixed c ts)
@@ -336,7 +364,9 @@ module _ {A : Type 0} where
   noRepeats-choices (c ∷ cs) u = noRepeats-prefixed c (choices cs) (u c (inl refl)) (noRepeats-choices cs (λ d h. u d (inr h)))
 
   -- what passes among the lists with a member of c in front: a count for each member of c
-  pub count-prefixed : (p : List A → Bool) (c : List A) (ts : List (List A)) → count p (prefixed c ts) ≡ total (λ a. count (λ t. p (a ∷ t)) ts) c
+  pub count-prefixed :
+      (p : List A → Bool) (c : List A) (ts : List (List A))
+      → count p (prefixed c ts) ≡ total (λ a. count (λ t. p (a ∷ t)) ts) c
   unfolding prefixed total count
   count-prefixed p [] ts = refl
   count-prefixed p (a ∷ c) ts =

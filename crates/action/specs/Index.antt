@@ -1,6 +1,6 @@
 -- Indices of group elements: i stands for the digits c0, c1, .. with i = c0 + o0 c1 + o0 o1 c2 + .., digit g below order o_g, so that
 -- generator 0 is the fastest.
-use Prim.Native.Nat.{ℕ, _+_, _-_, _*_, _/_, _%_}
+use Prim.Native.Nat.{ℕ, _+_, _-_, _*_, _/_, _%_, _<_}
 use mathlib.Core.List.{List, [], _∷_}
 use Rattle.action.specs.Permutation.{Generator}
 
@@ -13,6 +13,13 @@ orderOf (g ∷ gs) = g .order * orderOf gs
 unfoldable pub digits : List Generator → ℕ → List ℕ
 digits [] i = []
 digits (g ∷ gs) i = i % g .order ∷ digits gs (i / g .order)
+
+-- a digit for each generator, below its order
+abbrev pub Digits : List Generator → List ℕ → Type 0
+Digits [] [] = Unit {0}
+Digits [] (c ∷ cs) = ⊥
+Digits (g ∷ gs) [] = ⊥
+Digits (g ∷ gs) (c ∷ cs) = (c < g .order) × Digits gs cs
 
 -- the index of digits
 unfoldable pub index : List Generator → List ℕ → ℕ

@@ -20,6 +20,11 @@ abbrev pub Member : {A : Type 0} → A → List A → Type 0
 Member a [] = ⊥
 Member a (b ∷ xs) = (a ≡ b) ⊎ Member a xs
 
+-- no member stands twice
+abbrev pub NoRepeats : {A : Type 0} → List A → Type 0
+NoRepeats [] = Unit {0}
+NoRepeats (a ∷ xs) = (Member a xs → ⊥) × NoRepeats xs
+
 -- the members that pass a test
 unfoldable pub select : {A : Type 0} → (A → Bool) → List A → List A
 select p [] = []

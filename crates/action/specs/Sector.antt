@@ -1,5 +1,6 @@
 -- Characters of the group, and which words a list of modes keeps.
-use Prim.Native.Nat.{ℕ, _+_, _-_, _*_, _/_, _%_}
+use Prim.Native.Nat.{ℕ, _+_, _-_, _*_, _/_, _%_, _<_}
+use mathlib.Core.Path.{_≡_}
 use mathlib.Core.Bool.{Bool, _||_, not}
 use mathlib.Core.List.{List, [], _∷_, map}
 use lib.Dec.{eqb}
@@ -8,7 +9,7 @@ use Rattle.pauli_word.specs.Word.{Word}
 use Rattle.action.specs.Arithmetic.{lcmAll}
 use Rattle.action.specs.Lists.{below, every}
 use Rattle.action.specs.Permutation.{Generator}
-use Rattle.action.specs.Index.{orderOf, digits}
+use Rattle.action.specs.Index.{orderOf, digits, add}
 use Rattle.action.specs.Orbit.{fixes}
 
 -- the phase modulus: the least common multiple of the orders
@@ -33,6 +34,31 @@ phases m (g ∷ gs) (k ∷ ks) (c ∷ cs) = reduced (g .order) k * (c % g .order
 unfoldable pub numerator : List Generator → List ℤ → List ℕ → ℕ
 unfolding phases modulus
 numerator gs ks cs = phases (modulus gs) gs ks cs % modulus gs
+
+-- each mode reduced to 0 .. o - 1
+unfoldable pub reducedModes : List Generator → List ℤ → List ℤ
+reducedModes [] ks = []
+reducedModes (g ∷ gs) [] = []
+reducedModes (g ∷ gs) (k ∷ ks) = pos (reduced (g .order) k) ∷ reducedModes gs ks
+
+-- each digit reduced to 0 .. o - 1
+unfoldable pub reducedDigits : List Generator → List ℕ → List ℕ
+reducedDigits [] cs = []
+reducedDigits (g ∷ gs) [] = []
+reducedDigits (g ∷ gs) (c ∷ cs) = c % g .order ∷ reducedDigits gs cs
+
+-- a mode for each generator, from 0 to its order less 1
+abbrev pub Modes : List Generator → List ℤ → Type 0
+Modes [] [] = Unit {0}
+Modes [] (k ∷ ks) = ⊥
+Modes (g ∷ gs) [] = ⊥
+Modes (g ∷ gs) (pos k ∷ ks) = (k < g .order) × Modes gs ks
+Modes (g ∷ gs) (negsuc k ∷ ks) = ⊥
+
+-- a character of the group: it maps the indices below the order to numbers below the phase modulus, and sums to sums modulo it
+pub record Character (gs : List Generator) (f : ℕ → ℕ) : Type 0 where
+  pub inside : (i : ℕ) → i < orderOf gs → f i < modulus gs
+  pub additive : (i j : ℕ) → i < orderOf gs → j < orderOf gs → f (add gs i j) ≡ (f i + f j) % modulus gs
 
 -- whether the character of index i is 1
 unfoldable pub trivial : List Generator → List ℤ → ℕ → Bool

@@ -1,0 +1,199 @@
+-- What is proved of the definitions, to be read without the proofs: each statement is followed by the law that shows it.
+--
+-- 1 Orders, 2 Indices, 3 Canonical, 4 Stabilizer, 5 Characters, 6 Kept lists, 7 Pairs. Throughout, gs are valid generators of n sites
+-- (`Valid n gs`: each permutes the sites, every two commute, and each order is exact), and n and the number of generators are any.
+use Prim.Native.Nat.{ℕ, suc, _+_, _*_, _^_, _%_, _<_, _≤_}
+use mathlib.Core.Path.{_≡_, _∙_, sym, ap, ap₂}
+use mathlib.Core.Logic.{_↔_}
+use mathlib.Core.Bool.{Bool, true, false}
+use mathlib.Core.List.{List}
+use lib.IntN.{ℤ}
+use lib.ListN.{length}
+use Rattle.pauli_word.specs.Word.{Word, less}
+use Rattle.action.specs.Lists.{Member, NoRepeats}
+use Rattle.action.specs.Permutation.{Generator, after, exactOrder, Permutes, Valid}
+use Rattle.action.specs.Index.{orderOf, digits, Digits, index, addDigits, add, inverse}
+use Rattle.action.specs.Orbit.{reach, stepped, orbit, isIn, least, forward, indexBack, isRepresentative, fixes, fixing, orbitSize}
+use Rattle.action.specs.Sector.{modulus, numerator, reducedModes, reducedDigits, Modes, Character, keeps}
+use Rattle.action.specs.Count.{allWords, allModes, keptLists, keptPairs}
+use Rattle.action.proofs.Order as Order
+use Rattle.action.proofs.Index as Index
+use Rattle.action.proofs.Reach as Reach
+use Rattle.action.proofs.Canonical as Canonical
+use Rattle.action.proofs.Stabilizer as Stabilizer
+use Rattle.action.proofs.Characters as Characters
+use Rattle.action.proofs.Kept as Kept
+use Rattle.action.proofs.Pairs as Pairs
+
+-- ---- 1 Orders: the exact order, the least common multiple of the cycle lengths, is the least positive number of applications that
+-- moves every site back
+
+module _ {n : ℕ} {perm : List ℕ} (permutes : Permutes n perm) where
+  pub order-returns : (q : ℕ) → q < n → after perm (exactOrder perm) q ≡ q
+  order-returns = Order.order-returns permutes
+
+  pub order-positive : 0 < exactOrder perm
+  order-positive = Order.order-positive perm
+
+  pub order-least : (k : ℕ) → 0 < k → ((q : ℕ) → q < n → after perm k q ≡ q) → exactOrder perm ≤ k
+  order-least = Order.order-least permutes
+
+module _ {n : ℕ} {gs : List Generator} (valid : Valid n gs) where
+  -- ---- 2 Indices: digits and index are inverse; adding indices is composing what they do; the walk
+
+  pub index-digits : (i : ℕ) → i < orderOf gs → index gs (digits gs i) ≡ i
+  index-digits = Index.index-digits gs (Index.valid-positive valid)
+
+  pub digits-index : (cs : List ℕ) → Digits gs cs → digits gs (index gs cs) ≡ cs
+  digits-index = Index.digits-index gs (Index.valid-positive valid)
+
+  pub index-below : (cs : List ℕ) → Digits gs cs → index gs cs < orderOf gs
+  index-below = Index.index-below gs
+
+  pub digits-add : (i j : ℕ) → digits gs (add gs i j) ≡ addDigits gs (digits gs i) (digits gs j)
+  digits-add = Index.digits-add gs (Index.valid-positive valid)
+
+  -- reaching by i and then by j is reaching by their sum
+  pub reach-add : (i j : ℕ) (w : Word) → length w ≡ n → reach gs (add gs i j) w ≡ reach gs j (reach gs i w)
+  reach-add = Reach.reach-add valid
+
+  -- the inverse undoes
+  pub reach-inverse : (i : ℕ) (w : Word) → length w ≡ n → reach gs (inverse gs i) (reach gs i w) ≡ w
+  reach-inverse = Reach.reach-inverse valid
+
+  pub reach-zero : (w : Word) → reach gs 0 w ≡ w
+  reach-zero = Reach.reach-zero gs
+
+  -- the walk: what i + 1 reaches is one step from what i reaches, and after the last index the walk is back at its word
+  pub reach-step : (i : ℕ) (w : Word) → length w ≡ n → reach gs (suc i) w ≡ stepped gs (digits gs i) (reach gs i w)
+  reach-step = Reach.reach-step valid
+
+  pub reach-order : (w : Word) → reach gs (orderOf gs) w ≡ w
+  reach-order = Reach.reach-order valid
+
+  module _ (w : Word) (long : length w ≡ n) where
+    -- ---- 3 Canonical: the least word and the index that leads back from it
+
+    pub least-in-orbit : isIn (least gs w) (orbit gs w) ≡ true
+    least-in-orbit = Canonical.least-in-orbit valid w
+
+    pub least-least : (u : Word) → isIn u (orbit gs w) ≡ true → less u (least gs w) ≡ false
+    least-least = Canonical.least-least valid w long
+
+    -- the index back is the inverse of `forward`, which reaches the least word, and no earlier index does
+    pub back-inverse : indexBack gs w ≡ inverse gs (forward gs w)
+    unfolding indexBack
+    back-inverse = λ i. inverse gs (forward gs w)
+
+    pub forward-below : forward gs w < orderOf gs
+    forward-below = Canonical.forward-below valid w
+
+    pub forward-reaches : reach gs (forward gs w) w ≡ least gs w
+    forward-reaches = Canonical.forward-reaches valid w
+
+    pub forward-first : (i : ℕ) → i < forward gs w → reach gs i w ≡ least gs w → ⊥
+    forward-first = Canonical.forward-first gs w
+
+    pub back-below : indexBack gs w < orderOf gs
+    back-below = Canonical.back-below valid w
+
+    pub back-reaches : reach gs (indexBack gs w) (least gs w) ≡ w
+    back-reaches = Canonical.back-reaches valid w long
+
+    -- every word of an orbit has the same least word, which is its own
+    pub least-same : (u : Word) → isIn u (orbit gs w) ≡ true → least gs u ≡ least gs w
+    least-same = Canonical.least-same valid w long
+
+    pub least-own : least gs (least gs w) ≡ least gs w
+    least-own = Canonical.least-own valid w long
+
+    -- two words have the same least word exactly if one is in the other's orbit
+    pub orbit-by-least : (u : Word) → length u ≡ n → (least gs u ≡ least gs w) ↔ (isIn u (orbit gs w) ≡ true)
+    orbit-by-least u e = (Canonical.orbit-of-least valid w long u e, Canonical.least-same valid w long u)
+
+    -- ---- 4 Stabilizer: the fixing indices are a subgroup, and the order is the number of different orbit words times theirs
+
+    pub fixes-zero : fixes gs w 0 ≡ true
+    fixes-zero = Stabilizer.fixes-zero gs w
+
+    pub fixes-add : (i j : ℕ) → fixes gs w i ≡ true → fixes gs w j ≡ true → fixes gs w (add gs i j) ≡ true
+    fixes-add = Stabilizer.fixes-add valid w long
+
+    pub fixes-inverse : (i : ℕ) → fixes gs w i ≡ true → fixes gs w (inverse gs i) ≡ true
+    fixes-inverse = Stabilizer.fixes-inverse valid w long
+
+    -- the orbit lists its words once each
+    pub orbit-once : NoRepeats (orbit gs w)
+    orbit-once = Stabilizer.orbit-noRepeats gs w
+
+    pub orbit-stabilizer : orderOf gs ≡ length (orbit gs w) * length (fixing gs w)
+    orbit-stabilizer = Stabilizer.orbit-stabilizer valid w long
+
+    pub orbitSize-orbit : orbitSize gs w ≡ length (orbit gs w)
+    orbitSize-orbit = Stabilizer.orbitSize-is valid w long
+
+    pub nothing-left-over : orderOf gs % length (fixing gs w) ≡ 0
+    nothing-left-over = Stabilizer.fixing-divides valid w long
+
+    -- ---- 6 Kept lists: of all mode lists, exactly as many keep the word as its orbit has different words; by any test that agrees with
+    -- `keeps`, and so by `keeps`
+
+    pub kept-lists : (kept : List ℤ → Word → Bool) → ((ks : List ℤ) → Member ks (allModes gs) → kept ks w ≡ keeps gs ks w)
+        → keptLists kept gs w ≡ length (orbit gs w)
+    kept-lists = Kept.kept-lists valid w long
+
+    pub keeps-lists : keptLists (keeps gs) gs w ≡ length (orbit gs w)
+    keeps-lists = Kept.kept-lists valid w long (keeps gs) (λ ks m i. keeps gs ks w)
+
+    -- keeping is the same for all words of an orbit
+    pub keeps-orbit : (ks : List ℤ) (u : Word) → isIn u (orbit gs w) ≡ true → keeps gs ks u ≡ keeps gs ks w
+    keeps-orbit = Kept.keeps-orbit valid w long
+
+  -- ---- 5 Characters: the numerator turns sums of indices into sums modulo the phase modulus, and the mode lists are all the characters
+
+  pub numerator-add : (ks : List ℤ) (i j : ℕ)
+      → numerator gs ks (digits gs (add gs i j)) ≡ (numerator gs ks (digits gs i) + numerator gs ks (digits gs j)) % modulus gs
+  numerator-add = Characters.numerator-index-add gs (Index.valid-positive valid)
+
+  -- modes and digits may be reduced first
+  pub numerator-reduced : (ks : List ℤ) (cs : List ℕ) → numerator gs (reducedModes gs ks) (reducedDigits gs cs) ≡ numerator gs ks cs
+  numerator-reduced ks cs = Characters.numerator-reduced-modes gs ks (reducedDigits gs cs) ∙ Characters.numerator-reduced-digits gs ks cs
+
+  -- only index 0 has numerator 0 under every mode list
+  pub numerator-faithful : (i : ℕ) → i < orderOf gs → ((ks : List ℤ) → Member ks (allModes gs) → numerator gs ks (digits gs i) ≡ 0) → i ≡ 0
+  numerator-faithful = Characters.numerator-faithful gs (Index.valid-positive valid)
+
+  pub numerator-character : (ks : List ℤ) → Character gs (λ i. numerator gs ks (digits gs i))
+  numerator-character = Characters.numerator-character gs (Index.valid-positive valid)
+
+  -- every character is the numerator of a reduced mode list, and of only one
+  pub character-modes : (f : ℕ → ℕ) → Character gs f
+      → (ks : List ℤ) × Member ks (allModes gs) × ((i : ℕ) → i < orderOf gs → numerator gs ks (digits gs i) ≡ f i)
+  character-modes = Characters.character-modes gs (Index.valid-positive valid)
+
+  pub modes-unique : (ks ls : List ℤ) → Member ks (allModes gs) → Member ls (allModes gs)
+      → ((i : ℕ) → i < orderOf gs → numerator gs ks (digits gs i) ≡ numerator gs ls (digits gs i)) → ks ≡ ls
+  modes-unique = Characters.modes-unique gs (Index.valid-positive valid)
+
+  -- ---- 7 Pairs: nothing is lost. There are 4 ^ n pairs of a representative and a mode list that keeps it; by any test that agrees with
+  -- `keeps`, and so by `keeps`. All words of n letters and all reduced mode lists are listed, once each
+
+  pub kept-pairs : (kept : List ℤ → Word → Bool)
+      → ((w : Word) (ks : List ℤ) → length w ≡ n → Member ks (allModes gs) → kept ks w ≡ keeps gs ks w)
+      → keptPairs kept gs n ≡ 4 ^ n
+  kept-pairs = Pairs.kept-pairs valid
+
+  pub keeps-pairs : keptPairs (keeps gs) gs n ≡ 4 ^ n
+  keeps-pairs = Pairs.kept-pairs valid (keeps gs) (λ w ks e m i. keeps gs ks w)
+
+  pub words-all : (w : Word) → Member w (allWords n) ↔ (length w ≡ n)
+  words-all w = (Pairs.words-long n w, Pairs.words-all n w)
+
+  pub words-once : NoRepeats (allWords n)
+  words-once = Pairs.words-noRepeats n
+
+  pub modes-all : (ks : List ℤ) → Member ks (allModes gs) ↔ Modes gs ks
+  modes-all = Characters.modes-reduced gs
+
+  pub modes-once : NoRepeats (allModes gs)
+  modes-once = Pairs.modes-noRepeats gs

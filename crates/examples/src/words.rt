@@ -1,0 +1,164 @@
+// Words: texts good and bad, the limits of their length, refused words, the order.
+use crate::print;
+use pauli_word::Ordering;
+use pauli_word::Read;
+use pauli_word::Spelled;
+use pauli_word::Weighed;
+use pauli_word::WordRefusal;
+
+// Texts with their letters and weights, and texts with a letter that is none.
+pub fn texts() {
+    read(b"XYZI");
+    read(b"IIII");
+    read(b"Y");
+    read(b"");
+    read(b"XIZYXIZYXIZYXIZY");
+    read(b"XY_Z");
+    read(b"xyz");
+    read(b"XYZ ");
+    read(b"QXI");
+}
+
+// 256 letters are a word, 257 are none, whatever they are.
+pub fn lengths() {
+    read_length(&[b'Z'; 255]);
+    read_length(&[b'Z'; 256]);
+    read_length(&[b'Z'; 257]);
+    read_length(&[b'?'; 256]);
+    read_length(&[b'?'; 257]);
+}
+
+// Words that break a rule, alone and two at once.
+pub fn refusals() {
+    let mut word = [0u8; 64];
+    word[0] = 15;
+    word[32] = 9;
+    weigh(4, &word);
+    spell(4, &word);
+    weigh(3, &word);
+    spell(3, &word);
+    weigh(256, &word);
+    weigh(257, &word);
+    spell(257, &word);
+    weigh(4, &word[..63]);
+    spell(4, &word[..63]);
+    weigh(257, &word[..63]);
+    weigh(0, &word);
+    weigh(0, &[0u8; 64]);
+    weigh(0, &[0u8; 65]);
+    word[63] = 128;
+    weigh(255, &word);
+    weigh(256, &word);
+}
+
+// The X plane decides before the Z plane.
+pub fn order() {
+    compare(b"IX", b"ZI");
+    compare(b"ZI", b"IX");
+    compare(b"ZX", b"XZ");
+    compare(b"YI", b"XI");
+    compare(b"XIZY", b"XIZY");
+}
+
+// What a text is read as: the text of the word again, and its weight.
+fn read(text: &[u8]) {
+    print::text(b"from_text ");
+    print::text(text);
+    print::text(b": ");
+    let r = pauli_word::from_text(text);
+    let answer = r.answer;
+    let word = r.word;
+    match answer {
+        Read::Sites(n) => {
+            spell_on(n, &word);
+            print::text(b", ");
+            weigh_on(n, &word);
+        }
+        Read::TooManyLetters => print::refused(28),
+        Read::NotALetter(at) => print::refused_at(29, at),
+    }
+}
+
+// The same for a text too long to print.
+fn read_length(text: &[u8]) {
+    print::text(b"from_text of ");
+    print::number(text.len());
+    print::text(b" bytes: ");
+    let r = pauli_word::from_text(text);
+    let answer = r.answer;
+    let word = r.word;
+    match answer {
+        Read::Sites(n) => weigh_on(n, &word),
+        Read::TooManyLetters => print::refused(28),
+        Read::NotALetter(at) => print::refused_at(29, at),
+    }
+}
+
+fn spell(n: usize, word: &[u8]) {
+    print::text(b"to_text, ");
+    print::number(n);
+    print::text(b" sites, ");
+    print::number(word.len());
+    print::text(b" bytes: ");
+    spell_on(n, word);
+    print::text(b"\n");
+}
+
+fn weigh(n: usize, word: &[u8]) {
+    print::text(b"weight, ");
+    print::number(n);
+    print::text(b" sites, ");
+    print::number(word.len());
+    print::text(b" bytes: ");
+    weigh_on(n, word);
+}
+
+// The word's text, with no line end, or why there is none.
+fn spell_on(n: usize, word: &[u8]) {
+    let r = pauli_word::to_text(n, word);
+    let answer = r.answer;
+    let text = r.text;
+    match answer {
+        Spelled::Letters(k) => print::first(&text, k),
+        Spelled::Refused(why) => {
+            print::text(b"refused ");
+            print::number(rule(why));
+        }
+    }
+}
+
+fn weigh_on(n: usize, word: &[u8]) {
+    match pauli_word::weight(n, word) {
+        Weighed::Weight(k) => {
+            print::text(b"weight ");
+            print::number(k);
+            print::text(b"\n");
+        }
+        Weighed::Refused(why) => print::refused(rule(why)),
+    }
+}
+
+fn rule(why: WordRefusal) -> usize {
+    match why {
+        WordRefusal::TooManySites => 1,
+        WordRefusal::WordLength => 15,
+        WordRefusal::BitAboveSites => 17,
+    }
+}
+
+fn compare(a: &[u8], b: &[u8]) {
+    let first = pauli_word::from_text(a);
+    let second = pauli_word::from_text(b);
+    let v = first.word;
+    let w = second.word;
+    print::text(b"compare ");
+    print::text(a);
+    print::text(b" ");
+    print::text(b);
+    print::text(b": ");
+    match pauli_word::compare(&v, &w) {
+        Ordering::Less => print::text(b"less\n"),
+        Ordering::Same => print::text(b"same\n"),
+        Ordering::Greater => print::text(b"greater\n"),
+    }
+}
