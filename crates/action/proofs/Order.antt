@@ -155,7 +155,7 @@ module _ {n : ℕ} {perm : List ℕ} (permutes : Permutes n perm) where
       permutes .apart p q h k (after-apart c (target perm p) (target perm q) (permutes .inside p h) (permutes .inside q k) e)
 
   -- a site comes back within n applications
-  comes-back : (q : ℕ) → q < n → (c : ℕ) × (c < n) × (after perm (suc c) q ≡ q)
+  pub comes-back : (q : ℕ) → q < n → (c : ℕ) × (c < n) × (after perm (suc c) q ≡ q)
   comes-back q h =
       let (i, j, l, k, e) = pigeonhole n (λ i. after perm i q) (λ i k. after-inside i q h) in
       let d : ℕ = j - suc i in
@@ -182,7 +182,7 @@ module _ {n : ℕ} {perm : List ℕ} (permutes : Permutes n perm) where
       go (inl z) = dvd-of-mod-eq-zero size z
       go (inr p) = absurd (omega (arith, cycle-least perm q (c % size) p left, mod-lt c (cycle-positive perm q)))
 
-  cycle-order : (q : ℕ) → q < n → cycleLength perm q ∣ exactOrder perm
+  pub cycle-order : (q : ℕ) → q < n → cycleLength perm q ∣ exactOrder perm
   unfolding exactOrder
   cycle-order q h =
       lcmAll-member (cycleLength perm q) (map (cycleLength perm) (below (length perm)))

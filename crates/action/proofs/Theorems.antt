@@ -3,7 +3,7 @@
 -- 1 Orders, 2 Indices, 3 Canonical, 4 Stabilizer, 5 Characters, 6 Kept lists, 7 Pairs. Throughout, gs are valid generators of n sites
 -- (`Valid n gs`: each permutes the sites, every two commute, and each order is exact), and n and the number of generators are any.
 use Prim.Native.Nat.{ℕ, suc, _+_, _*_, _^_, _%_, _<_, _≤_}
-use mathlib.Core.Path.{_≡_, _∙_, sym, ap, ap₂}
+use mathlib.Core.Path.{_≡_, _∙_}
 use mathlib.Core.Logic.{_↔_}
 use mathlib.Core.Bool.{Bool, true, false}
 use mathlib.Core.List.{List}
@@ -13,7 +13,7 @@ use Rattle.pauli_word.specs.Word.{Word, less}
 use Rattle.action.specs.Lists.{Member, NoRepeats}
 use Rattle.action.specs.Permutation.{Generator, after, exactOrder, Permutes, Valid}
 use Rattle.action.specs.Index.{orderOf, digits, Digits, index, addDigits, add, inverse}
-use Rattle.action.specs.Orbit.{reach, stepped, orbit, isIn, least, forward, indexBack, isRepresentative, fixes, fixing, orbitSize}
+use Rattle.action.specs.Orbit.{reach, stepped, orbit, isIn, least, forward, indexBack, fixes, fixing, orbitSize}
 use Rattle.action.specs.Sector.{modulus, numerator, reducedModes, reducedDigits, Modes, Character, keeps}
 use Rattle.action.specs.Count.{allWords, allModes, keptLists, keptPairs}
 use Rattle.action.proofs.Order as Order
@@ -72,7 +72,13 @@ module _ {n : ℕ} {gs : List Generator} (valid : Valid n gs) where
   reach-order = Reach.reach-order valid
 
   module _ (w : Word) (long : length w ≡ n) where
-    -- ---- 3 Canonical: the least word and the index that leads back from it
+    -- ---- 3 Canonical: the orbit is what the indices reach; the least word, and the index that leads back from it
+
+    pub orbit-reached : (i : ℕ) → i < orderOf gs → isIn (reach gs i w) (orbit gs w) ≡ true
+    orbit-reached = Canonical.orbit-intro gs w
+
+    pub reached-orbit : (u : Word) → isIn u (orbit gs w) ≡ true → (i : ℕ) × (i < orderOf gs) × (u ≡ reach gs i w)
+    reached-orbit = Canonical.orbit-elim gs w
 
     pub least-in-orbit : isIn (least gs w) (orbit gs w) ≡ true
     least-in-orbit = Canonical.least-in-orbit valid w

@@ -5,11 +5,11 @@ use mathlib.Core.Path.{_≡_, refl, sym, ap, ap₂, subst, _∙_}
 use mathlib.Core.Logic.{⊎-elim}
 use mathlib.Core.Bool.{Bool, true, false, _&&_, _||_}
 use mathlib.Core.List.{List, [], _∷_, _++_, append-assoc}
-use native.Mathlib.Nat.{mod-lt, div-add-mod, le-of-suc-le-suc, not-suc-le-zero, le-trans, le-of-lt, lt-of-lt-of-le, mul-suc, zero-div, suc-add, zero-add, one-mul, mod-eq-of-lt, min-le-left}
+use native.Mathlib.Nat.{mod-lt, div-add-mod, le-of-suc-le-suc, not-suc-le-zero, le-of-lt, lt-of-lt-of-le, zero-div, suc-add, zero-add, one-mul, mod-eq-of-lt, min-le-left}
 use native.Mathlib.Numerals.{add-one}
 use native.Mathlib.Omega.{arith}
 use lib.Dec.{eqb}
-use lib.ListN.{length, getD, set, take, drop, replicate, length-append, length-take, drop-of-length-le, List·getD-append, List·getD-eq-default}
+use lib.ListN.{length, getD, set, take, drop, length-append, length-take, drop-of-length-le, List·getD-append, List·getD-eq-default}
 use lib.Seq.{getD-append-add, set-append-left, set-out, set-getD, drop-append-add, drop-append-le, drop-cons, drop-nil, take-at, drop-at}
 use borrow.Author.Tests.{eq-eqb, ne-eqb}
 use lib.Pow.{pow-mono, pow-lt, shr-lt}

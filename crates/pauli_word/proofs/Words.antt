@@ -6,7 +6,7 @@ use mathlib.Core.Bool.{Bool, true, false, false≢true}
 use mathlib.Core.List.{List, [], _∷_, _++_, map, append-nil}
 use native.Mathlib.Nat.{le-of-suc-le-suc, not-suc-le-zero, suc-inj, suc-ne-zero, le-of-eq, add-sub-cancel-left}
 use native.Mathlib.Omega.{arith}
-use lib.ListN.{length, getD, take, drop, replicate, length-append, length-take, length-drop, length-map, take-append-drop, drop-of-length-le}
+use lib.ListN.{length, getD, take, drop, length-append, length-drop, length-map, take-append-drop, drop-of-length-le}
 use lib.Seq.{take-at, drop-at, length-take-le, getD-take, take-all}
 use Rattle.pauli_word.specs.Word.{Letter, I, X, Y, Z, Word, xBit, zBit, letterOf}
 use Rattle.pauli_word.specs.Bytes.{planeBits, planeOf, lettersOf, decode, encode, clear, clearFrom, Bytes, orAt, withSite, AcceptedWord}
