@@ -157,6 +157,10 @@ module _ {n : ℕ} {gs : List Generator} (valid : Valid n gs) where
 
   -- ---- 5 Characters: the numerator turns sums of indices into sums modulo the phase modulus, and the mode lists are all the characters
 
+  pub numerator-counters : (ks : List ℤ) (cs ds : List ℕ) → length cs ≡ length gs → length ds ≡ length gs
+      → numerator gs ks (addDigits gs cs ds) ≡ (numerator gs ks cs + numerator gs ks ds) % modulus gs
+  numerator-counters = Characters.numerator-add gs (Index.valid-positive valid)
+
   pub numerator-add : (ks : List ℤ) (i j : ℕ)
       → numerator gs ks (digits gs (add gs i j)) ≡ (numerator gs ks (digits gs i) + numerator gs ks (digits gs j)) % modulus gs
   numerator-add = Characters.numerator-index-add gs (Index.valid-positive valid)

@@ -1,7 +1,7 @@
 -- What the checks of a word come to, rule by rule, and that a word which passes them is accepted.
 use Prim.Native.Nat.{ℕ, _<_, _≤_}
 use mathlib.Core.Path.{_≡_, refl, ap, _∙_}
-use mathlib.Core.Bool.{Bool, true, false, _&&_, not, cond, false≢true}
+use mathlib.Core.Bool.{Bool, true, false, _&&_, not, cond, and-eq-true-iff}
 use mathlib.Core.List.{List, []}
 use native.Mathlib.Omega.{arith}
 use lib.Dec.{ltb, eqb}
@@ -46,14 +46,10 @@ passed false true c e = absurd (never _ e)
 passed false false true e = absurd (never _ e)
 passed false false false e = (refl, refl, refl)
 
-and-both : (a b : Bool) → a && b ≡ true → (a ≡ true) × (b ≡ true)
-and-both true b e = (refl, e)
-and-both false b e = absurd (false≢true e)
-
 pub accepted : (n : ℕ) (bytes : List ℕ) → verdict (wordChecks n bytes) ≡ answer tt → Bytes bytes → AcceptedWord planeLength n bytes
 accepted n bytes e small =
     let p = passed (ltb maxSites n) (not (eqb (length bytes) wordLength)) (not (clearAbove n bytes)) e in
-    let q = and-both (clearFrom n (take planeLength bytes)) (clearFrom n (drop planeLength bytes)) (not-false (clearAbove n bytes) (p .2)) in
+    let q = and-eq-true-iff (clearFrom n (take planeLength bytes)) (clearFrom n (drop planeLength bytes)) .0 (not-false (clearAbove n bytes) (p .2)) in
     record {
       sites = ltb-false maxSites n (p .0);
       long = eqb-true (length bytes) wordLength (not-false (eqb (length bytes) wordLength) (p .1));

@@ -3,7 +3,7 @@
 use Prim.Native.Nat.{ℕ, suc, _+_, _-_, _*_, _/_, _%_, _<_, _≤_, min}
 use mathlib.Core.Path.{_≡_, refl, sym, ap, ap₂, _∙_}
 use mathlib.Core.Logic.{_⊎_, inl, inr}
-use mathlib.Core.Bool.{Bool, true, false, _&&_, false≢true}
+use mathlib.Core.Bool.{Bool, true, false, _&&_, false≢true, and-eq-true-iff}
 use mathlib.Core.List.{List, [], _∷_, _++_, map}
 use native.Mathlib.Nat.{suc-inj, suc-ne-zero, le-antisymm}
 use native.Mathlib.Numerals.{add-one}
@@ -47,14 +47,6 @@ sameLetter-eq Z X e = absurd (false≢true e)
 sameLetter-eq Z Y e = absurd (false≢true e)
 sameLetter-eq Z Z e = refl
 
-and-left : (a b : Bool) → a && b ≡ true → a ≡ true
-and-left true b e = refl
-and-left false b e = absurd (false≢true e)
-
-and-right : (a b : Bool) → a && b ≡ true → b ≡ true
-and-right true b e = e
-and-right false b e = absurd (false≢true e)
-
 pub same-refl : (w : Word) → same w w ≡ true
 unfolding same
 same-refl [] = refl
@@ -66,7 +58,8 @@ same-eq [] [] e = refl
 same-eq [] (b ∷ w) e = absurd (false≢true e)
 same-eq (a ∷ v) [] e = absurd (false≢true e)
 same-eq (a ∷ v) (b ∷ w) e =
-    ap₂ _∷_ (sameLetter-eq a b (and-left (sameLetter a b) (same v w) e)) (same-eq v w (and-right (sameLetter a b) (same v w) e))
+    let p = and-eq-true-iff (sameLetter a b) (same v w) .0 e in
+    ap₂ _∷_ (sameLetter-eq a b (p .0)) (same-eq v w (p .1))
 
 -- ---- a strict total order
 

@@ -1,7 +1,7 @@
 -- Text words: words and texts go into each other without loss, and what a text that is read letter by letter comes to.
 use Prim.Native.Nat.{ℕ, zero, suc, _+_, _≤_, _<_}
 use mathlib.Core.Path.{_≡_, refl, sym, ap, ap₂, subst, _∙_}
-use mathlib.Core.Bool.{Bool, true, false, _&&_, cond, false≢true}
+use mathlib.Core.Bool.{Bool, true, false, _&&_, cond, false≢true, and-eq-true-iff}
 use mathlib.Core.List.{List, [], _∷_, _++_}
 use native.Mathlib.Nat.{le-of-suc-le-suc, not-suc-le-zero, le-of-lt, lt-of-lt-of-le}
 use native.Mathlib.Omega.{arith}
@@ -53,16 +53,12 @@ glyph-letter b h = go (eqb b 73) (eqb b 88) (eqb b 89) (eqb b 90) refl refl refl
     go true false false false ei ex ey ez = sym (simp (ex, ey, ez) (eqb-true b 73 ei))
     go false false false false ei ex ey ez = absurd (false≢true (sym (simp (ei, ex, ey, ez)) ∙ h))
 
-and-both : (a b : Bool) → a && b ≡ true → (a ≡ true) × (b ≡ true)
-and-both true b e = (refl, e)
-and-both false b e = absurd (false≢true e)
-
 -- a text of letters is written again from its word
 pub spell-readText : (text : List ℕ) → lettersAlone text ≡ true → spell (readText text) ≡ text
 unfolding lettersAlone
 spell-readText [] h = refl
 spell-readText (b ∷ text) h =
-    let p = and-both (isLetter b) (lettersAlone text) h in
+    let p = and-eq-true-iff (isLetter b) (lettersAlone text) .0 h in
     ap₂ _∷_ (glyph-letter b (p .0)) (spell-readText text (p .1))
 
 -- ---- what `read` tells of a byte
@@ -123,7 +119,7 @@ unfolding lettersAlone firstOther
 other-at [] i h e f = absurd (not-suc-le-zero h)
 other-at (b ∷ text) zero h e f = (ap (λ (t : Bool). t && lettersAlone text) f, ap (λ (t : Bool). cond t (suc (firstOther text)) 0) f)
 other-at (b ∷ text) (suc i) h e f =
-    let p = and-both (isLetter b) (lettersAlone (take i text)) e in
+    let p = and-eq-true-iff (isLetter b) (lettersAlone (take i text)) .0 e in
     let r = other-at text i (le-of-suc-le-suc h) (p .1) f in
     (ap (λ (t : Bool). isLetter b && t) (r .0) ∙ ap (λ (t : Bool). t && false) (p .0), ap (λ (t : Bool). cond t (suc (firstOther text)) 0) (p .0) ∙ ap suc (r .1))
 
