@@ -106,7 +106,7 @@ lesser-least v w = go (less w v) refl
     go true t = (less-not-back w v t, less-irrefl w)
     go false t = (less-irrefl v, t)
 
-leastOf-member : (v : Word) (ws : List Word) → Member (leastOf v ws) (v ∷ ws)
+pub leastOf-member : (v : Word) (ws : List Word) → Member (leastOf v ws) (v ∷ ws)
 unfolding leastOf
 leastOf-member v [] = inl refl
 leastOf-member v (w ∷ ws) =
@@ -115,7 +115,7 @@ leastOf-member v (w ∷ ws) =
     (λ m. inr (inr m))
     (leastOf-member (lesser v w) ws)
 
-leastOf-least :
+pub leastOf-least :
     {n : ℕ} (v : Word) (ws : List Word) → length v ≡ n → ((u : Word) → Member u ws → length u ≡ n)
     → (u : Word) → Member u (v ∷ ws) → less u (leastOf v ws) ≡ false
 unfolding leastOf

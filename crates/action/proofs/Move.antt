@@ -13,14 +13,14 @@ use Rattle.action.specs.Permutation.{target, after, exactOrder, Permutes
 use Rattle.action.specs.Orbit.{place, move, moves}
 use Rattle.action.proofs.Order.{after-add, after-inside, order-returns, order-positive}
 
-place-length : (ps : List ℕ) (w out : Word) → length (place ps w out) ≡ length out
+pub place-length : (ps : List ℕ) (w out : Word) → length (place ps w out) ≡ length out
 unfolding place
 place-length ps [] out = refl
 place-length [] (a ∷ w) out = refl
 place-length (p ∷ ps) (a ∷ w) out = place-length ps w (set out p a) ∙ length-set out p a
 
 -- a site that is no target keeps its letter
-place-other : (ps : List ℕ) (w out : Word) (j : ℕ) → ((i : ℕ) → i < length ps → j ≢ target ps i) → getD (place ps w out) j I ≡ getD out j I
+pub place-other : (ps : List ℕ) (w out : Word) (j : ℕ) → ((i : ℕ) → i < length ps → j ≢ target ps i) → getD (place ps w out) j I ≡ getD out j I
 unfolding place
 place-other ps [] out j h = refl
 place-other [] (a ∷ w) out j h = refl

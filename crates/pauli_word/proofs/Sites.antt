@@ -52,7 +52,7 @@ module _ {n : ℕ} {bytes : List ℕ} (ok : AcceptedWord planeLength n bytes) (q
   site = rw (decode-length ok) h
 
   -- the letter of site q from its two bits
-  letter-at : (x z : Bool) → x ≡ getD (planeBits (take planeLength bytes)) q false → z ≡ getD (planeBits (drop planeLength bytes)) q false
+  pub letter-at : (x z : Bool) → x ≡ getD (planeBits (take planeLength bytes)) q false → z ≡ getD (planeBits (drop planeLength bytes)) q false
       → letterOf x z ≡ getD (decode planeLength n bytes) q I
   letter-at x z ex ez = ap₂ letterOf ex ez ∙ sym (decode-at ok q h)
 

@@ -6,7 +6,7 @@ use mathlib.Core.Bool.{Bool, true, false, false≢true}
 use mathlib.Core.List.{List, [], _∷_, _++_, map, append-nil}
 use native.Mathlib.Nat.{le-of-suc-le-suc, not-suc-le-zero, suc-inj, suc-ne-zero, le-of-eq, add-sub-cancel-left}
 use native.Mathlib.Omega.{arith}
-use lib.ListN.{length, getD, take, drop, length-append, length-drop, length-map, take-append-drop, drop-of-length-le}
+use lib.ListN.{length, getD, set, take, drop, replicate, length-append, length-drop, length-map, take-append-drop, drop-of-length-le, List·getD-map}
 use lib.Seq.{take-at, drop-at, length-take-le, getD-take, take-all}
 use Rattle.pauli_word.specs.Word.{Letter, I, X, Y, Z, Word, xBit, zBit, letterOf}
 use Rattle.pauli_word.specs.Bytes.{planeBits, planeOf, lettersOf, decode, encode, clear, clearFrom, Bytes, orAt, withSite, AcceptedWord}
@@ -309,3 +309,55 @@ encode-next m w a h = ap₂ _++_ (plane xBit (xPlane m w)) (plane zBit (zPlane m
         ∙ ap (λ (k : ℕ). planeOf m (orAt (planeBits (planeOf m (map f w))) k (f a))) (sym (length-map w f))
         ∙ planeOf-next m (map f w) (f a) (subst (λ (k : ℕ). k < 8 * m) (sym (length-map w f)) h)
         ∙ ap (planeOf m) (sym (map-append f w (a ∷ [])))
+
+-- ---- one letter set
+
+map-set : {A B : Type 0} (f : A → B) (xs : List A) (i : ℕ) (a : A) → map f (set xs i a) ≡ set (map f xs) i (f a)
+map-set f [] i a = refl
+map-set f (x ∷ xs) zero a = refl
+map-set f (x ∷ xs) (suc i) a = ap (λ (t : List _). f x ∷ t) (map-set f xs i a)
+
+-- setting a bit that is 0, of bits that are filled up with 0
+orAt-set : (k : ℕ) (bs : List Bool) (q : ℕ) (b : Bool) → q < length bs → length bs ≤ k → getD bs q false ≡ false → orAt (pad k bs) q b ≡ pad k (set bs q b)
+unfolding pad
+orAt-set k [] q b h l e = absurd (not-suc-le-zero h)
+orAt-set zero (a ∷ bs) q b h l e = absurd (not-suc-le-zero l)
+orAt-set (suc k) (a ∷ bs) zero b h l e = rw e
+orAt-set (suc k) (a ∷ bs) (suc q) b h l e = ap (λ (t : List Bool). a ∷ t) (orAt-set k bs q b (le-of-suc-le-suc h) (le-of-suc-le-suc l) e)
+
+-- the bytes of a word with a letter in the place of an I, from those of the word
+pub encode-set : (m : ℕ) (w : Word) (q : ℕ) (a : Letter) → q < length w → length w ≤ 8 * m → getD w q I ≡ I
+    → withSite m (encode m w) q (xBit a) (zBit a) ≡ encode m (set w q a)
+unfolding withSite encode
+encode-set m w q a h l e = ap₂ _++_ (plane xBit refl (xPlane m w)) (plane zBit refl (zPlane m w))
+  where
+    plane : (f : Letter → Bool) → f I ≡ false → {p : List ℕ} → p ≡ planeOf m (map f w) → planeOf m (orAt (planeBits p) q (f a)) ≡ planeOf m (map f (set w q a))
+    plane f o r =
+        let none : getD (map f w) q false ≡ false = ap (getD (map f w) q) (sym o) ∙ List·getD-map f w q I ∙ ap f e ∙ o in
+        ap (λ (p : List ℕ). planeOf m (orAt (planeBits p) q (f a))) r
+        ∙ ap (λ (t : List Bool). planeOf m (orAt t q (f a))) (planeBits-planeOf m (map f w))
+        ∙ ap (planeOf m) (orAt-set (8 * m) (map f w) q (f a) (rw length-map h) (rw length-map l) none)
+        ∙ planeOf-pad m (set (map f w) q (f a))
+        ∙ ap (planeOf m) (sym (map-set f w q a))
+
+pad-blank : (f : Letter → Bool) → f I ≡ false → (k n : ℕ) → pad k (map f (replicate n I)) ≡ pad k []
+unfolding pad
+pad-blank f o zero n = refl
+pad-blank f o (suc k) zero = refl
+pad-blank f o (suc k) (suc n) = ap₂ _∷_ o (pad-blank f o k n)
+
+-- a word of Is has the bytes of the empty word
+pub encode-blank : (m n : ℕ) → encode m (replicate n I) ≡ encode m []
+unfolding encode
+encode-blank m n = ap₂ _++_ (plane xBit refl) (plane zBit refl)
+  where
+    plane : (f : Letter → Bool) → f I ≡ false → planeOf m (map f (replicate n I)) ≡ planeOf m []
+    plane f o = cc (planeOf-pad m (map f (replicate n I)), planeOf-pad m [], pad-blank f o (8 * m) n)
+
+-- bytes that are those of a word of n letters
+module _ (m : ℕ) {n : ℕ} {bytes : List ℕ} (w : Word) (long : length w ≡ n) (few : n ≤ 8 * m) (e : bytes ≡ encode m w) where
+  pub encoded-accepted : AcceptedWord m n bytes
+  encoded-accepted = rw (e, ← long) (encode-accepted m w (rw long few))
+
+  pub encoded-decode : decode m n bytes ≡ w
+  encoded-decode = rw (e, ← long) (decode-encode m w (rw long few))

@@ -1,0 +1,124 @@
+-- The walk over an orbit, entry by entry: the bytes at hand are those of the word that index i reaches, and the list holds the bytes of the
+-- entries before it. What carries it: the walk's step goes from an index to the next (`reach-step` of the action).
+use Prim.Native.Nat.{ℕ, zero, suc, _+_, _-_, _*_, _≤_}
+use mathlib.Core.Path.{_≡_, refl, sym, ap, ap₂, _∙_}
+use mathlib.Core.List.{List, [], _∷_, _++_, map, append-assoc, append-nil}
+use native.Mathlib.Nat.{add-zero, zero-add, add-sub-cancel-left}
+use native.Mathlib.Numerals.{add-one}
+use native.Mathlib.Omega.{arith}
+use lib.ListN.{length, take, drop, length-append, length-take, length-drop, length-map, drop-of-length-le}
+use lib.Seq.{take-at, drop-at, drop-drop}
+use Rattle.pauli_word.specs.Limits.{planeLength, wordLength}
+use Rattle.pauli_word.specs.Word.{Word}
+use Rattle.pauli_word.specs.Bytes.{decode, encode, AcceptedWord}
+use Rattle.pauli_word.proofs.Words.{map-append, encode-length, encode-decode, encoded-accepted, encoded-decode}
+use Rattle.action.specs.Lists.{from, below}
+use Rattle.action.specs.Permutation.{Generator}
+use Rattle.action.specs.Index.{orderOf, digits}
+use Rattle.action.specs.Orbit.{reach, stepped, orbitList}
+use Rattle.action.proofs.Lists.{length-below}
+use Rattle.action.proofs.Reach.{reach-length, reach-zero, reach-step}
+use Rattle.orbit.specs.Tables.{generatorsIn, Tables, encodeAll}
+
+-- ---- the entries of the orbit list, one after the other
+
+-- the first i entries
+abbrev pub entries : List Generator → Word → ℕ → List Word
+entries gs w i = map (λ j. reach gs j w) (below i)
+
+pub entries-length : (gs : List Generator) (w : Word) (i : ℕ) → length (entries gs w i) ≡ i
+entries-length gs w i = length-map (below i) (λ j. reach gs j w) ∙ length-below i
+
+from-next : (n a : ℕ) → from a (suc n) ≡ from a n ++ ((a + n) ∷ [])
+unfolding from
+from-next zero a = rw add-zero
+from-next (suc n) a =
+    let e : suc a + n ≡ a + suc n = omega arith in
+    ap (λ (t : List ℕ). a ∷ t) (from-next n (suc a) ∙ rw e)
+
+below-next : (n : ℕ) → below (n + 1) ≡ below n ++ (n ∷ [])
+unfolding below
+below-next n = ap (from 0) (add-one n) ∙ from-next n 0 ∙ rw zero-add
+
+pub entries-next : (gs : List Generator) (w : Word) (i : ℕ) → entries gs w (i + 1) ≡ entries gs w i ++ (reach gs i w ∷ [])
+entries-next gs w i = ap (map (λ j. reach gs j w)) (below-next i) ∙ map-append (λ j. reach gs j w) (below i) (i ∷ [])
+
+pub entries-all : (gs : List Generator) (w : Word) → entries gs w (orderOf gs) ≡ orbitList gs w
+unfolding orbitList
+entries-all gs w = refl
+
+-- ---- the bytes at hand
+
+-- the walk starts at the word, which index 0 keeps
+pub walk-start : {n : ℕ} {bytes : List ℕ} → AcceptedWord planeLength n bytes → (gs : List Generator)
+    → bytes ≡ encode planeLength (reach gs 0 (decode planeLength n bytes))
+walk-start {n} {bytes} ok gs = sym (ap (encode planeLength) (reach-zero gs (decode planeLength n bytes)) ∙ encode-decode ok)
+
+module _ {k n : ℕ} {targets orders : List ℕ} (t : Tables k n targets orders) (w : Word) (long : length w ≡ n)
+    (i : ℕ) {here : List ℕ} (e : here ≡ encode planeLength (reach (generatorsIn k n targets orders) i w)) where
+  reach-long : length (reach (generatorsIn k n targets orders) i w) ≡ n
+  reach-long = reach-length (generatorsIn k n targets orders) i w ∙ long
+
+  pub walk-accepted : AcceptedWord planeLength n here
+  walk-accepted = encoded-accepted planeLength (reach (generatorsIn k n targets orders) i w) reach-long (t .sites) e
+
+  pub walk-next : {next : List ℕ}
+      → next ≡ encode planeLength (stepped (generatorsIn k n targets orders) (digits (generatorsIn k n targets orders) i) (decode planeLength n here))
+      → next ≡ encode planeLength (reach (generatorsIn k n targets orders) (i + 1) w)
+  walk-next a =
+      a
+      ∙ ap (encode planeLength)
+      (ap (stepped (generatorsIn k n targets orders) (digits (generatorsIn k n targets orders) i))
+      (encoded-decode planeLength (reach (generatorsIn k n targets orders) i w) reach-long (t .sites) e)
+      ∙ sym (reach-step (t .valid) i w long)
+      ∙ ap (λ (j : ℕ). reach (generatorsIn k n targets orders) j w) (sym (add-one i)))
+
+-- ---- the list
+
+encodeAll-append : (vs ws : List Word) → encodeAll (vs ++ ws) ≡ encodeAll vs ++ encodeAll ws
+unfolding encodeAll
+encodeAll-append [] ws = refl
+encodeAll-append (v ∷ vs) ws =
+    ap (λ (l : List ℕ). encode planeLength v ++ l) (encodeAll-append vs ws) ∙ sym (append-assoc (encode planeLength v) (encodeAll vs) (encodeAll ws))
+
+pub encodeAll-length : (ws : List Word) → length (encodeAll ws) ≡ wordLength * length ws
+unfolding encodeAll
+encodeAll-length [] = refl
+encodeAll-length (w ∷ ws) =
+    omega (arith, length-append (encode planeLength w) (encodeAll ws), encode-length planeLength w, encodeAll-length ws)
+
+-- the first i entries, and the list as it was behind them
+abbrev pub filled : List Generator → Word → List ℕ → ℕ → List ℕ
+filled gs w list i = encodeAll (entries gs w i) ++ drop (64 * i) list
+
+pub filled-start : (gs : List Generator) (w : Word) (list : List ℕ) → list ≡ filled gs w list 0
+unfolding encodeAll below from
+filled-start gs w list = refl
+
+-- a list of one entry for each index stays that long
+pub filled-length : (gs : List Generator) (w : Word) (list : List ℕ) (i o : ℕ) → length list ≡ wordLength * o → i ≤ o → length (filled gs w list i) ≡ wordLength * o
+filled-length gs w list i o l h =
+    length-append (encodeAll (entries gs w i)) (drop (64 * i) list)
+    ∙ omega (arith, encodeAll-length (entries gs w i), entries-length gs w i, length-drop (64 * i) list)
+
+-- the part of a list that entry i takes
+pub part-length : (list : List ℕ) (i : ℕ) → 64 * i + 64 ≤ length list → length (take (64 * i + 64 - 64 * i) (drop (64 * i) list)) ≡ 64
+part-length list i h = simp (length-take, length-drop) (omega arith)
+
+-- the next entry stored behind the first i, in the part of the list that it takes
+pub filled-next : (gs : List Generator) (w : Word) (list now bytes : List ℕ) (i : ℕ) → now ≡ filled gs w list i → bytes ≡ encode planeLength (reach gs i w)
+    → take (64 * i) now ++ (bytes ++ drop (64 * i + 64 - 64 * i) (drop (64 * i) now)) ≡ filled gs w list (i + 1)
+unfolding encodeAll
+filled-next gs w list now bytes i e b =
+    let front : length (encodeAll (entries gs w i)) ≡ 64 * i = encodeAll-length (entries gs w i) ∙ ap (λ (j : ℕ). 64 * j) (entries-length gs w i) in
+    let more : 64 * (i + 1) ≡ 64 * i + 64 = omega arith in
+    ap₂ (λ (a d : List ℕ). a ++ (bytes ++ drop (64 * i + 64 - 64 * i) d))
+    (ap (take (64 * i)) e ∙ take-at (encodeAll (entries gs w i)) (drop (64 * i) list) (64 * i) front)
+    (ap (drop (64 * i)) e ∙ drop-at (encodeAll (entries gs w i)) (drop (64 * i) list) (64 * i) front)
+    ∙ rw (add-sub-cancel-left (64 * i) 64, drop-drop, b, more, entries-next, encodeAll-append, append-nil, append-assoc)
+
+pub filled-end : (gs : List Generator) (w : Word) (list : List ℕ) (i o : ℕ) → o ≡ orderOf gs → length list ≡ wordLength * o → o ≤ i → i ≤ o
+    → filled gs w list i ≡ encodeAll (orbitList gs w)
+filled-end gs w list i o eo l h k =
+    let e : i ≡ orderOf gs = omega arith in
+    rw (drop-of-length-le list {i = 64 * i} (omega arith), append-nil) (ap encodeAll (ap (entries gs w) e ∙ entries-all gs w))

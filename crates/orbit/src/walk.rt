@@ -1,0 +1,135 @@
+// The walk over a word's orbit. Whoever calls a function here owes its `requires`.
+ghost use mathlib.Core.Path.{_≡_};
+ghost use Prim.Native.Nat.{_*_, _≤_, _<_};
+ghost use lib.ListN.{length};
+ghost use Rattle.pauli_word.specs.Limits.{planeLength, wordLength};
+ghost use Rattle.pauli_word.specs.Bytes.{decode, encode, AcceptedWord};
+ghost use Rattle.action.specs.Permutation.{Permutes};
+ghost use Rattle.action.specs.Index.{orderOf, digits};
+ghost use Rattle.action.specs.Orbit.{move as moveBy, stepped, orbitList, least, forward};
+ghost use Rattle.orbit.specs.Tables.{generatorsIn, Tables, encodeAll};
+use pauli_word::Ordering;
+
+// The least word of an orbit, and the smallest index that reaches it.
+pub struct LeastWord {
+    pub word: [u8; 64],
+    pub index: usize,
+}
+
+// Copies src over dst.
+pub fn copy(src: &[u8], dst: &mut [u8])
+    requires { ⌜ length (now src) ≡ length (now dst) ⌝ }
+    ensures { λ _. ⌜ now (dst .exit) ≡ now (src .entry) ⌝ }
+{
+    let mut i = 0;
+    while i < src.len() {
+        dst[i] = src[i];
+        i += 1;
+    }
+}
+
+// A word moved by one generator: site q's letter goes to site perm[q].
+pub fn apply_generator(perm: &[u32], sites: usize, word: &[u8]) -> [u8; 64]
+    requires { ⌜ Permutes sites (now perm) ⌝ }
+    requires { ⌜ AcceptedWord planeLength sites (now word) ⌝ }
+    ensures { λ r. ⌜ r ≡ encode planeLength (moveBy (now (perm .entry)) (decode planeLength sites (now (word .entry)))) ⌝ }
+{
+    let mut out = [0u8; 64];
+    let mut q = 0;
+    while q < sites {
+        let s = pauli_word::inner::site_at(word, q);
+        let target = perm[q] as usize;
+        pauli_word::inner::put_site(&mut out, target, s.x, s.z);
+        q += 1;
+    }
+    out
+}
+
+// The walk's step from the entry of an index to the next: moved by generator 0, and by each next one while the digits below roll over.
+pub fn advance(
+    targets: &[u32],
+    orders: &[u32],
+    generators: usize,
+    sites: usize,
+    index: usize,
+    word: &mut [u8],
+)
+    requires { ⌜ Tables generators sites (now targets) (now orders) ⌝ }
+    requires { ⌜ AcceptedWord planeLength sites (now word) ⌝ }
+    ensures { λ _. ⌜ now (word .exit) ≡ encode planeLength (stepped (generatorsIn generators sites (now (targets .entry)) (now (orders .entry))) (digits (generatorsIn generators sites (now (targets .entry)) (now (orders .entry))) index) (decode planeLength sites (now (word .entry)))) ⌝ }
+{
+    let mut rest = index;
+    let mut g = 0;
+    while g < generators {
+        let start = 256 * g;
+        let end = start + sites;
+        let moved = apply_generator(&targets[start..end], sites, word);
+        copy(&moved, word);
+        let o = orders[g] as usize;
+        if rest % o + 1 != o {
+            return;
+        }
+        rest = rest / o;
+        g += 1;
+    }
+}
+
+// The orbit list: the bytes of one entry for each index.
+pub fn fill_orbit(
+    targets: &[u32],
+    orders: &[u32],
+    generators: usize,
+    sites: usize,
+    order: usize,
+    word: &[u8],
+    list: &mut [u8],
+)
+    requires { ⌜ Tables generators sites (now targets) (now orders) ⌝ }
+    requires { ⌜ AcceptedWord planeLength sites (now word) ⌝ }
+    requires { ⌜ order ≡ orderOf (generatorsIn generators sites (now targets) (now orders)) ⌝ }
+    requires { ⌜ length (now list) ≡ wordLength * order ⌝ }
+    ensures { λ _. ⌜ now (list .exit) ≡ encodeAll (orbitList (generatorsIn generators sites (now (targets .entry)) (now (orders .entry))) (decode planeLength sites (now (word .entry)))) ⌝ }
+{
+    let mut here = [0u8; 64];
+    copy(word, &mut here);
+    let mut i = 0;
+    while i < order {
+        let at = 64 * i;
+        let end = at + 64;
+        copy(&here, &mut list[at..end]);
+        advance(targets, orders, generators, sites, i, &mut here);
+        i += 1;
+    }
+}
+
+// The least word of the orbit, by walking it whole, and the smallest index that reaches it.
+pub fn canonicalize_odometer(
+    targets: &[u32],
+    orders: &[u32],
+    generators: usize,
+    sites: usize,
+    order: usize,
+    word: &[u8],
+) -> LeastWord
+    requires { ⌜ Tables generators sites (now targets) (now orders) ⌝ }
+    requires { ⌜ AcceptedWord planeLength sites (now word) ⌝ }
+    requires { ⌜ order ≡ orderOf (generatorsIn generators sites (now targets) (now orders)) ⌝ }
+    ensures word { λ r. ⌜ r .word ≡ encode planeLength (least (generatorsIn generators sites (now (targets .entry)) (now (orders .entry))) (decode planeLength sites (now (word .entry)))) ⌝ }
+    ensures index { λ r. ⌜ r .index ≡ forward (generatorsIn generators sites (now (targets .entry)) (now (orders .entry))) (decode planeLength sites (now (word .entry))) ⌝ }
+{
+    let mut here = [0u8; 64];
+    copy(word, &mut here);
+    let mut best = [0u8; 64];
+    copy(word, &mut best);
+    let mut index = 0;
+    let mut i = 0;
+    while i < order {
+        if let Ordering::Less = pauli_word::compare(&here, &best) {
+            copy(&here, &mut best);
+            index = i;
+        }
+        advance(targets, orders, generators, sites, i, &mut here);
+        i += 1;
+    }
+    LeastWord { word: best, index }
+}

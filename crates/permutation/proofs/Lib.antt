@@ -1,0 +1,7 @@
+-- The laws that the functions' proofs rest on, each file below those that it uses; `Rules` says what the rules mean.
+pub mod Divisors
+pub mod Products
+pub mod Faults
+pub mod Cycles
+pub mod Pairs
+pub mod Rules
