@@ -35,10 +35,10 @@ module _ (k n : ℕ) (targets : List ℕ) where
   unfolding rowsOf below
   row-at g h = getD-map-from (rowAt n targets) [] k 0 g h ∙ ap (rowAt n targets) (zero-add g)
 
-  rows-cons : (g : ℕ) → g < k → drop g (rowsOf k n targets) ≡ rowAt n targets g ∷ drop (suc g) (rowsOf k n targets)
+  pub rows-cons : (g : ℕ) → g < k → drop g (rowsOf k n targets) ≡ rowAt n targets g ∷ drop (suc g) (rowsOf k n targets)
   rows-cons g h = drop-cons (rowsOf k n targets) g [] (omega (arith, rows-length)) ∙ ap (λ (p : List ℕ). p ∷ drop (suc g) (rowsOf k n targets)) (row-at g h)
 
-  rows-nil : (g : ℕ) → k ≤ g → drop g (rowsOf k n targets) ≡ []
+  pub rows-nil : (g : ℕ) → k ≤ g → drop g (rowsOf k n targets) ≡ []
   rows-nil g h =
       let short : length (rowsOf k n targets) ≤ g = omega (arith, rows-length) in
       drop-of-length-le (rowsOf k n targets) short
@@ -94,7 +94,7 @@ abbrev pub Inside : ℕ → List ℕ → ℕ → Type 0
 Inside n targets g = (q : ℕ) → q < n → getD targets (maxSites * g + q) 0 < n
 
 module _ (n : ℕ) (targets : List ℕ) where
-  row-target : (g q : ℕ) → q < n → target (rowAt n targets g) q ≡ getD targets (maxSites * g + q) 0
+  pub row-target : (g q : ℕ) → q < n → target (rowAt n targets g) q ≡ getD targets (maxSites * g + q) 0
   row-target g q h = getD-take n (drop (maxSites * g) targets) q 0 h ∙ getD-drop (maxSites * g) targets q 0
 
   row-twice :

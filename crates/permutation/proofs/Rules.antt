@@ -258,7 +258,7 @@ product-order [] (o ∷ orders) s = absurd (omega arith)
 product-order (p ∷ perms) [] s = absurd (omega arith)
 product-order (p ∷ perms) (o ∷ orders) s = ap (λ (k : ℕ). o * k) (product-order perms orders (suc-inj s))
 
-member-at : {A : Type 0} (xs : List A) (d : A) (g : ℕ) → g < length xs → Member (getD xs g d) xs
+pub member-at : {A : Type 0} (xs : List A) (d : A) (g : ℕ) → g < length xs → Member (getD xs g d) xs
 member-at [] d g l = absurd (not-suc-le-zero l)
 member-at (x ∷ xs) d zero l = inl refl
 member-at (x ∷ xs) d (suc g) l = inr (member-at xs d g (le-of-suc-le-suc l))
@@ -271,7 +271,7 @@ of-member-at (x ∷ xs) d a (inr m) = let (g, l, e) = of-member-at xs d a m in (
 -- ---- all of them
 
 -- an input that passes a list of checks breaks no first rule, and passes the others
-verdict-fine : (c : Check) (cs : List Check) → verdict (c ∷ cs) ≡ answer tt → (c .broken ≡ false) × (verdict cs ≡ answer tt)
+pub verdict-fine : (c : Check) (cs : List Check) → verdict (c ∷ cs) ≡ answer tt → (c .broken ≡ false) × (verdict cs ≡ answer tt)
 verdict-fine c cs h = go (c .broken) refl h
   where
     go :

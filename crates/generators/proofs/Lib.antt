@@ -1,0 +1,12 @@
+-- The laws that the functions' proofs rest on, each file below those that it uses.
+pub mod Stores
+pub mod Lattices
+pub mod Zeros
+pub mod Verdicts
+pub mod Written
+pub mod Faults
+pub mod Placed
+pub mod Reading
+pub mod Rows
+pub mod Holding
+pub mod Groups

@@ -1,0 +1,59 @@
+// Lattices: their sides (26, 27) and the shifts along their axes. Whoever calls a function here owes its `requires`.
+ghost use mathlib.Core.Path.{_≡_};
+ghost use mathlib.Core.List.{map};
+ghost use Prim.Native.Nat.{_*_, _≤_, _<_};
+ghost use lib.ListN.{length};
+ghost use Rattle.action.specs.Lists.{below};
+ghost use Rattle.action.specs.Lattice.{shifted as shiftedSite};
+ghost use Rattle.generators.specs.Parts.{sidesOutcome};
+
+// The sites of a lattice.
+pub enum Sides {
+    Zero,
+    TooLarge,
+    Sites(usize),
+}
+
+// The sites of a lattice by its sides: their product, found without overflow.
+pub fn sites_of(a: usize, b: usize, c: usize) -> Sides
+    ensures { λ r. ⌜ r ≡ sidesOutcome a b c ⌝ }
+{
+    if a == 0 {
+        return Sides::Zero;
+    }
+    if b == 0 {
+        return Sides::Zero;
+    }
+    if c == 0 {
+        return Sides::Zero;
+    }
+    if pauli_word::MAX_SITES / a < b {
+        return Sides::TooLarge;
+    }
+    if pauli_word::MAX_SITES / (a * b) < c {
+        return Sides::TooLarge;
+    }
+    Sides::Sites(a * b * c)
+}
+
+// Where a shift along an axis sends site q.
+pub fn shifted(stride: usize, side: usize, q: usize) -> usize
+    requires { ⌜ (0 < stride) × (0 < side) × (stride * side ≤ 256) × (q < 256) ⌝ }
+    ensures { λ r. ⌜ r ≡ shiftedSite stride side q ⌝ }
+{
+    let block = stride * side;
+    let place = q / stride % side;
+    q % stride + stride * ((place + 1) % side) + block * (q / block)
+}
+
+// The targets of a shift along an axis.
+pub fn fill_shift(row: &mut [u32], stride: usize, side: usize)
+    requires { ⌜ (0 < stride) × (0 < side) × (stride * side ≤ 256) × (length (now row) ≤ 256) ⌝ }
+    ensures { λ _. ⌜ now (row .exit) ≡ map (shiftedSite stride side) (below (length (now (row .entry)))) ⌝ }
+{
+    let mut q = 0;
+    while q < row.len() {
+        row[q] = shifted(stride, side, q) as u32;
+        q += 1;
+    }
+}

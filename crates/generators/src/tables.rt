@@ -1,0 +1,137 @@
+// Tables of targets and orders: the rules 8 to 13, and which tables hold a group. Whoever calls a function here owes its `requires`.
+ghost use mathlib.Core.Path.{_≡_};
+ghost use mathlib.Core.Bool.{not};
+ghost use mathlib.Core.List.{[], _∷_};
+ghost use Prim.Native.Nat.{ℕ, _≤_, _<_};
+ghost use lib.ListN.{length, take};
+ghost use Rattle.pauli_word.specs.Outcome.{verdict};
+ghost use Rattle.action.specs.Permutation.{Permutes};
+ghost use Rattle.permutation.specs.Limits.{targetPlaces, maxGenerators};
+ghost use Rattle.permutation.specs.Generators.{permsCheck, ordersCheck, groupChecks, rowAt, rowsOf};
+ghost use Rattle.generators.specs.Tables.{zeros, restsClear, holdGroup};
+ghost use Rattle.generators.specs.Parts.{verdictOfChecked};
+use crate::GroupRefusal;
+use crate::list::Checked;
+use permutation::inner::ExactOrder;
+use permutation::inner::Pair;
+use permutation::inner::Product;
+use permutation::inner::TargetFault;
+
+// The first fault of the orders, 8 to 10.
+pub fn orders_fault(targets: &[u32], orders: &[u32], generators: usize, sites: usize) -> Checked
+    requires { ⌜ (length (now targets) ≡ targetPlaces) × (length (now orders) ≡ maxGenerators) × (generators ≤ maxGenerators) × (sites ≤ 256) ⌝ }
+    requires { ⌜ ((g : ℕ) → g < generators → Permutes sites (rowAt sites (now targets) g)) ⌝ }
+    ensures { λ r. ⌜ verdictOfChecked r ≡ verdict (ordersCheck 0 (rowsOf generators sites (now (targets .entry))) (take generators (now (orders .entry))) ∷ []) ⌝ }
+{
+    let mut g = 0;
+    while g < generators {
+        let declared = orders[g];
+        if declared == 0 {
+            return Checked::Broken(GroupRefusal::ZeroOrder(g));
+        }
+        let start = 256 * g;
+        let end = start + sites;
+        let ExactOrder::Order(exact) = permutation::inner::exact_order(&targets[start..end]) else {
+            return Checked::Broken(GroupRefusal::PermutationOrderOverflow(g));
+        };
+        if declared != exact {
+            return Checked::Broken(GroupRefusal::OrderMismatch(g, declared, exact));
+        }
+        g += 1;
+    }
+    Checked::Fine
+}
+
+// The first fault of permutations with their orders, 8 to 13.
+pub fn group_fault(targets: &[u32], orders: &[u32], generators: usize, sites: usize) -> Checked
+    requires { ⌜ (length (now targets) ≡ targetPlaces) × (length (now orders) ≡ maxGenerators) × (generators ≤ maxGenerators) × (sites ≤ 256) ⌝ }
+    requires { ⌜ ((g : ℕ) → g < generators → Permutes sites (rowAt sites (now targets) g)) ⌝ }
+    ensures { λ r. ⌜ verdictOfChecked r ≡ verdict (groupChecks sites (rowsOf generators sites (now (targets .entry))) (take generators (now (orders .entry)))) ⌝ }
+{
+    if let Checked::Broken(why) = orders_fault(targets, orders, generators, sites) {
+        return Checked::Broken(why);
+    }
+    if let Pair::Found(left, right) = permutation::inner::first_pair(targets, generators, sites) {
+        return Checked::Broken(GroupRefusal::NonCommuting(left, right));
+    }
+    let Product::Order(order) = permutation::inner::group_order(orders, generators) else {
+        return Checked::Broken(GroupRefusal::GroupOrderOverflow);
+    };
+    if 1048576 < order {
+        return Checked::Broken(GroupRefusal::GroupOrderLimit);
+    }
+    Checked::Fine
+}
+
+// Whether all numbers are 0.
+pub fn all_zero(numbers: &[u32]) -> bool
+    ensures { λ r. ⌜ r ≡ zeros (now (numbers .entry)) ⌝ }
+{
+    let mut i = 0;
+    while i < numbers.len() {
+        if numbers[i] != 0 {
+            return false;
+        }
+        i += 1;
+    }
+    true
+}
+
+// Whether each generator's targets are a permutation of the sites.
+pub fn perms_fine(targets: &[u32], generators: usize, sites: usize) -> bool
+    requires { ⌜ (length (now targets) ≡ targetPlaces) × (generators ≤ maxGenerators) × (sites ≤ 256) ⌝ }
+    ensures { λ r. ⌜ r ≡ not (permsCheck sites 0 (rowsOf generators sites (now (targets .entry))) .broken) ⌝ }
+{
+    let mut g = 0;
+    while g < generators {
+        let start = 256 * g;
+        let end = start + sites;
+        let TargetFault::Nothing = permutation::inner::first_fault(&targets[start..end], sites)
+        else {
+            return false;
+        };
+        g += 1;
+    }
+    true
+}
+
+// Whether the places above the sites are 0, generator by generator.
+pub fn rests_clear(targets: &[u32], generators: usize, sites: usize) -> bool
+    requires { ⌜ (length (now targets) ≡ targetPlaces) × (generators ≤ maxGenerators) × (sites ≤ 256) ⌝ }
+    ensures { λ r. ⌜ r ≡ restsClear generators sites (now (targets .entry)) ⌝ }
+{
+    let mut g = 0;
+    while g < generators {
+        let start = 256 * g + sites;
+        let end = 256 * g + 256;
+        if !all_zero(&targets[start..end]) {
+            return false;
+        }
+        g += 1;
+    }
+    true
+}
+
+// Whether tables hold a group of at most 256 sites: no more than 4 generators, which break none of the rules 5 to 13, and unused places 0.
+pub fn hold_group(targets: &[u32], orders: &[u32], generators: usize, sites: usize) -> bool
+    requires { ⌜ (length (now targets) ≡ targetPlaces) × (length (now orders) ≡ maxGenerators) × (sites ≤ 256) ⌝ }
+    ensures { λ r. ⌜ r ≡ holdGroup generators sites (now (targets .entry)) (now (orders .entry)) ⌝ }
+{
+    if 4 < generators {
+        return false;
+    }
+    if !perms_fine(targets, generators, sites) {
+        return false;
+    }
+    let Checked::Fine = group_fault(targets, orders, generators, sites) else {
+        return false;
+    };
+    if !rests_clear(targets, generators, sites) {
+        return false;
+    }
+    let unused = 256 * generators;
+    if !all_zero(&targets[unused..]) {
+        return false;
+    }
+    all_zero(&orders[generators..])
+}
