@@ -3,6 +3,7 @@ ghost use mathlib.Core.Path.{_≡_};
 ghost use mathlib.Core.List.{map};
 ghost use Prim.Native.Nat.{_*_, _≤_, _<_};
 ghost use lib.ListN.{length};
+ghost use Rattle.pauli_word.specs.Limits.{maxSites};
 ghost use Rattle.action.specs.Lists.{below};
 ghost use Rattle.action.specs.Lattice.{shifted as shiftedSite};
 ghost use Rattle.generators.specs.Parts.{sidesOutcome};
@@ -38,7 +39,7 @@ pub fn sites_of(a: usize, b: usize, c: usize) -> Sides
 
 // Where a shift along an axis sends site q.
 pub fn shifted(stride: usize, side: usize, q: usize) -> usize
-    requires { ⌜ (0 < stride) × (0 < side) × (stride * side ≤ 256) × (q < 256) ⌝ }
+    requires { ⌜ (0 < stride) × (0 < side) × (stride * side ≤ maxSites) × (q < maxSites) ⌝ }
     ensures { λ r. ⌜ r ≡ shiftedSite stride side q ⌝ }
 {
     let block = stride * side;
@@ -48,7 +49,7 @@ pub fn shifted(stride: usize, side: usize, q: usize) -> usize
 
 // The targets of a shift along an axis.
 pub fn fill_shift(row: &mut [u32], stride: usize, side: usize)
-    requires { ⌜ (0 < stride) × (0 < side) × (stride * side ≤ 256) × (length (now row) ≤ 256) ⌝ }
+    requires { ⌜ (0 < stride) × (0 < side) × (stride * side ≤ maxSites) × (length (now row) ≤ maxSites) ⌝ }
     ensures { λ _. ⌜ now (row .exit) ≡ map (shiftedSite stride side) (below (length (now (row .entry)))) ⌝ }
 {
     let mut q = 0;

@@ -5,12 +5,14 @@ ghost use mathlib.Core.Bool.{false};
 ghost use mathlib.Core.List.{[], _∷_};
 ghost use Prim.Native.Nat.{_≤_};
 ghost use lib.ListN.{length, replicate};
+ghost use Rattle.pauli_word.specs.Limits.{maxSites};
 ghost use Rattle.pauli_word.specs.Outcome.{answer, verdict};
 ghost use Rattle.permutation.specs.Limits.{targetPlaces, maxGenerators};
 ghost use Rattle.permutation.specs.Generators.{endsInside, permsOf, permCheck, permsCheck};
 ghost use Rattle.generators.specs.Tables.{placedAll};
 ghost use Rattle.generators.specs.Parts.{scanOutcome, verdictOfChecked};
 use crate::GroupRefusal;
+use pauli_word::MAX_SITES;
 use permutation::inner::TargetFault;
 
 // How many generators a list writes.
@@ -57,7 +59,7 @@ pub fn copy(src: &[u32], dst: &mut [u32])
 
 // The first fault of a generator, 5 to 7.
 pub fn fault(generator: usize, perm: &[u32], sites: usize) -> Checked
-    requires { ⌜ sites ≤ 256 ⌝ }
+    requires { ⌜ sites ≤ maxSites ⌝ }
     ensures { λ r. ⌜ verdictOfChecked r ≡ verdict (permCheck sites generator (now (perm .entry)) ∷ []) ⌝ }
 {
     if perm.len() != sites {
@@ -78,7 +80,7 @@ pub fn fault(generator: usize, perm: &[u32], sites: usize) -> Checked
 
 // The targets of a list's generators, 256 places each, over zeros; or the first fault, 5 to 7.
 pub fn fill_targets(list: &[u32], sites: usize, targets: &mut [u32]) -> Checked
-    requires { ⌜ sites ≤ 256 ⌝ }
+    requires { ⌜ sites ≤ maxSites ⌝ }
     requires { ⌜ (endsInside (now list) ≡ false) × (length (permsOf (now list)) ≤ maxGenerators) ⌝ }
     requires { ⌜ now targets ≡ replicate targetPlaces 0 ⌝ }
     ensures answer { λ r. ⌜ verdictOfChecked r ≡ verdict (permsCheck sites 0 (permsOf (now (list .entry))) ∷ []) ⌝ }
@@ -93,7 +95,7 @@ pub fn fill_targets(list: &[u32], sites: usize, targets: &mut [u32]) -> Checked
         if let Checked::Broken(why) = fault(g, &list[start..end], sites) {
             return Checked::Broken(why);
         }
-        let place = 256 * g;
+        let place = MAX_SITES * g;
         let stop = place + sites;
         copy(&list[start..end], &mut targets[place..stop]);
         at = end;

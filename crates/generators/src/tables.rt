@@ -4,6 +4,7 @@ ghost use mathlib.Core.Bool.{not};
 ghost use mathlib.Core.List.{[], _∷_};
 ghost use Prim.Native.Nat.{ℕ, _≤_, _<_};
 ghost use lib.ListN.{length, take};
+ghost use Rattle.pauli_word.specs.Limits.{maxSites};
 ghost use Rattle.pauli_word.specs.Outcome.{verdict};
 ghost use Rattle.action.specs.Permutation.{Permutes};
 ghost use Rattle.permutation.specs.Limits.{targetPlaces, maxGenerators};
@@ -12,6 +13,9 @@ ghost use Rattle.generators.specs.Tables.{zeros, restsClear, holdGroup};
 ghost use Rattle.generators.specs.Parts.{verdictOfChecked};
 use crate::GroupRefusal;
 use crate::list::Checked;
+use pauli_word::MAX_SITES;
+use permutation::MAX_GENERATORS;
+use permutation::MAX_ORDER;
 use permutation::inner::ExactOrder;
 use permutation::inner::Pair;
 use permutation::inner::Product;
@@ -19,7 +23,7 @@ use permutation::inner::TargetFault;
 
 // The first fault of the orders, 8 to 10.
 pub fn orders_fault(targets: &[u32], orders: &[u32], generators: usize, sites: usize) -> Checked
-    requires { ⌜ (length (now targets) ≡ targetPlaces) × (length (now orders) ≡ maxGenerators) × (generators ≤ maxGenerators) × (sites ≤ 256) ⌝ }
+    requires { ⌜ (length (now targets) ≡ targetPlaces) × (length (now orders) ≡ maxGenerators) × (generators ≤ maxGenerators) × (sites ≤ maxSites) ⌝ }
     requires { ⌜ ((g : ℕ) → g < generators → Permutes sites (rowAt sites (now targets) g)) ⌝ }
     ensures { λ r. ⌜ verdictOfChecked r ≡ verdict (ordersCheck 0 (rowsOf generators sites (now (targets .entry))) (take generators (now (orders .entry))) ∷ []) ⌝ }
 {
@@ -29,7 +33,7 @@ pub fn orders_fault(targets: &[u32], orders: &[u32], generators: usize, sites: u
         if declared == 0 {
             return Checked::Broken(GroupRefusal::ZeroOrder(g));
         }
-        let start = 256 * g;
+        let start = MAX_SITES * g;
         let end = start + sites;
         let ExactOrder::Order(exact) = permutation::inner::exact_order(&targets[start..end]) else {
             return Checked::Broken(GroupRefusal::PermutationOrderOverflow(g));
@@ -44,7 +48,7 @@ pub fn orders_fault(targets: &[u32], orders: &[u32], generators: usize, sites: u
 
 // The first fault of permutations with their orders, 8 to 13.
 pub fn group_fault(targets: &[u32], orders: &[u32], generators: usize, sites: usize) -> Checked
-    requires { ⌜ (length (now targets) ≡ targetPlaces) × (length (now orders) ≡ maxGenerators) × (generators ≤ maxGenerators) × (sites ≤ 256) ⌝ }
+    requires { ⌜ (length (now targets) ≡ targetPlaces) × (length (now orders) ≡ maxGenerators) × (generators ≤ maxGenerators) × (sites ≤ maxSites) ⌝ }
     requires { ⌜ ((g : ℕ) → g < generators → Permutes sites (rowAt sites (now targets) g)) ⌝ }
     ensures { λ r. ⌜ verdictOfChecked r ≡ verdict (groupChecks sites (rowsOf generators sites (now (targets .entry))) (take generators (now (orders .entry)))) ⌝ }
 {
@@ -57,7 +61,7 @@ pub fn group_fault(targets: &[u32], orders: &[u32], generators: usize, sites: us
     let Product::Order(order) = permutation::inner::group_order(orders, generators) else {
         return Checked::Broken(GroupRefusal::GroupOrderOverflow);
     };
-    if 1048576 < order {
+    if MAX_ORDER < order {
         return Checked::Broken(GroupRefusal::GroupOrderLimit);
     }
     Checked::Fine
@@ -79,12 +83,12 @@ pub fn all_zero(numbers: &[u32]) -> bool
 
 // Whether each generator's targets are a permutation of the sites.
 pub fn perms_fine(targets: &[u32], generators: usize, sites: usize) -> bool
-    requires { ⌜ (length (now targets) ≡ targetPlaces) × (generators ≤ maxGenerators) × (sites ≤ 256) ⌝ }
+    requires { ⌜ (length (now targets) ≡ targetPlaces) × (generators ≤ maxGenerators) × (sites ≤ maxSites) ⌝ }
     ensures { λ r. ⌜ r ≡ not (permsCheck sites 0 (rowsOf generators sites (now (targets .entry))) .broken) ⌝ }
 {
     let mut g = 0;
     while g < generators {
-        let start = 256 * g;
+        let start = MAX_SITES * g;
         let end = start + sites;
         let TargetFault::Nothing = permutation::inner::first_fault(&targets[start..end], sites)
         else {
@@ -97,13 +101,13 @@ pub fn perms_fine(targets: &[u32], generators: usize, sites: usize) -> bool
 
 // Whether the places above the sites are 0, generator by generator.
 pub fn rests_clear(targets: &[u32], generators: usize, sites: usize) -> bool
-    requires { ⌜ (length (now targets) ≡ targetPlaces) × (generators ≤ maxGenerators) × (sites ≤ 256) ⌝ }
+    requires { ⌜ (length (now targets) ≡ targetPlaces) × (generators ≤ maxGenerators) × (sites ≤ maxSites) ⌝ }
     ensures { λ r. ⌜ r ≡ restsClear generators sites (now (targets .entry)) ⌝ }
 {
     let mut g = 0;
     while g < generators {
-        let start = 256 * g + sites;
-        let end = 256 * g + 256;
+        let start = MAX_SITES * g + sites;
+        let end = MAX_SITES * g + MAX_SITES;
         if !all_zero(&targets[start..end]) {
             return false;
         }
@@ -114,10 +118,10 @@ pub fn rests_clear(targets: &[u32], generators: usize, sites: usize) -> bool
 
 // Whether tables hold a group of at most 256 sites: no more than 4 generators, which break none of the rules 5 to 13, and unused places 0.
 pub fn hold_group(targets: &[u32], orders: &[u32], generators: usize, sites: usize) -> bool
-    requires { ⌜ (length (now targets) ≡ targetPlaces) × (length (now orders) ≡ maxGenerators) × (sites ≤ 256) ⌝ }
+    requires { ⌜ (length (now targets) ≡ targetPlaces) × (length (now orders) ≡ maxGenerators) × (sites ≤ maxSites) ⌝ }
     ensures { λ r. ⌜ r ≡ holdGroup generators sites (now (targets .entry)) (now (orders .entry)) ⌝ }
 {
-    if 4 < generators {
+    if MAX_GENERATORS < generators {
         return false;
     }
     if !perms_fine(targets, generators, sites) {
@@ -129,7 +133,7 @@ pub fn hold_group(targets: &[u32], orders: &[u32], generators: usize, sites: usi
     if !rests_clear(targets, generators, sites) {
         return false;
     }
-    let unused = 256 * generators;
+    let unused = MAX_SITES * generators;
     if !all_zero(&targets[unused..]) {
         return false;
     }

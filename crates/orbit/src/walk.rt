@@ -8,11 +8,13 @@ ghost use Rattle.action.specs.Permutation.{Permutes};
 ghost use Rattle.action.specs.Index.{orderOf, digits};
 ghost use Rattle.action.specs.Orbit.{move as moveBy, stepped, orbitList, least, forward};
 ghost use Rattle.orbit.specs.Tables.{generatorsIn, Tables, encodeAll};
+use pauli_word::MAX_SITES;
 use pauli_word::Ordering;
+use pauli_word::WORD_BYTES;
 
 // The least word of an orbit, and the smallest index that reaches it.
 pub struct LeastWord {
-    pub word: [u8; 64],
+    pub word: [u8; WORD_BYTES],
     pub index: usize,
 }
 
@@ -29,12 +31,12 @@ pub fn copy(src: &[u8], dst: &mut [u8])
 }
 
 // A word moved by one generator: site q's letter goes to site perm[q].
-pub fn apply_generator(perm: &[u32], sites: usize, word: &[u8]) -> [u8; 64]
+pub fn apply_generator(perm: &[u32], sites: usize, word: &[u8]) -> [u8; WORD_BYTES]
     requires { ⌜ Permutes sites (now perm) ⌝ }
     requires { ⌜ AcceptedWord planeLength sites (now word) ⌝ }
     ensures { λ r. ⌜ r ≡ encode planeLength (moveBy (now (perm .entry)) (decode planeLength sites (now (word .entry)))) ⌝ }
 {
-    let mut out = [0u8; 64];
+    let mut out = [0u8; WORD_BYTES];
     let mut q = 0;
     while q < sites {
         let s = pauli_word::inner::site_at(word, q);
@@ -61,7 +63,7 @@ pub fn advance(
     let mut rest = index;
     let mut g = 0;
     while g < generators {
-        let start = 256 * g;
+        let start = MAX_SITES * g;
         let end = start + sites;
         let moved = apply_generator(&targets[start..end], sites, word);
         copy(&moved, word);
@@ -90,12 +92,12 @@ pub fn fill_orbit(
     requires { ⌜ length (now list) ≡ wordLength * order ⌝ }
     ensures { λ _. ⌜ now (list .exit) ≡ encodeAll (orbitList (generatorsIn generators sites (now (targets .entry)) (now (orders .entry))) (decode planeLength sites (now (word .entry)))) ⌝ }
 {
-    let mut here = [0u8; 64];
+    let mut here = [0u8; WORD_BYTES];
     copy(word, &mut here);
     let mut i = 0;
     while i < order {
-        let at = 64 * i;
-        let end = at + 64;
+        let at = WORD_BYTES * i;
+        let end = at + WORD_BYTES;
         copy(&here, &mut list[at..end]);
         advance(targets, orders, generators, sites, i, &mut here);
         i += 1;
@@ -117,9 +119,9 @@ pub fn canonicalize_odometer(
     ensures word { λ r. ⌜ r .word ≡ encode planeLength (least (generatorsIn generators sites (now (targets .entry)) (now (orders .entry))) (decode planeLength sites (now (word .entry)))) ⌝ }
     ensures index { λ r. ⌜ r .index ≡ forward (generatorsIn generators sites (now (targets .entry)) (now (orders .entry))) (decode planeLength sites (now (word .entry))) ⌝ }
 {
-    let mut here = [0u8; 64];
+    let mut here = [0u8; WORD_BYTES];
     copy(word, &mut here);
-    let mut best = [0u8; 64];
+    let mut best = [0u8; WORD_BYTES];
     copy(word, &mut best);
     let mut index = 0;
     let mut i = 0;

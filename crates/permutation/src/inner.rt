@@ -7,8 +7,13 @@ ghost use Prim.Native.Nat.{ℕ, _+_, _*_, _≤_, _<_};
 ghost use lib.ListN.{length, getD, take, drop};
 ghost use Rattle.action.specs.Arithmetic.{gcd as gcdOf, lcm as lcmOf};
 ghost use Rattle.action.specs.Permutation.{Permutes, cycleLength};
+ghost use Rattle.pauli_word.specs.Limits.{maxSites};
+ghost use Rattle.permutation.specs.Limits.{maxGenerators, targetPlaces};
 ghost use Rattle.permutation.specs.Generators.{targetsCheck, pairsCheck, rowsOf};
 ghost use Rattle.permutation.specs.Parts.{faultCheck, exactOutcome, pairCheck, productOutcome};
+use crate::MAX_DECLARED;
+use crate::MAX_WIDE;
+use pauli_word::MAX_SITES;
 
 // The first target at fault, in list order.
 pub enum TargetFault {
@@ -37,10 +42,10 @@ pub enum Product {
 
 // The first target that is not below the site count or came before.
 pub fn first_fault(perm: &[u32], sites: usize) -> TargetFault
-    requires { ⌜ sites ≤ 256 ⌝ }
+    requires { ⌜ sites ≤ maxSites ⌝ }
     ensures { λ r. ⌜ ((i : ℕ) → faultCheck i r ≡ targetsCheck sites i [] (now (perm .entry))) ⌝ }
 {
-    let mut seen = [0u8; 256];
+    let mut seen = [0u8; MAX_SITES];
     let mut q = 0;
     while q < perm.len() {
         let target = perm[q];
@@ -100,17 +105,17 @@ pub fn mark_cycle(perm: &[u32], start: usize, seen: &mut [u8]) -> usize
 
 // The exact order of a permutation: each cycle is walked once.
 pub fn exact_order(perm: &[u32]) -> ExactOrder
-    requires { ⌜ (Permutes (length (now perm)) (now perm)) × (length (now perm) ≤ 256) ⌝ }
+    requires { ⌜ (Permutes (length (now perm)) (now perm)) × (length (now perm) ≤ maxSites) ⌝ }
     ensures { λ r. ⌜ r ≡ exactOutcome (now (perm .entry)) ⌝ }
 {
-    let mut seen = [0u8; 256];
+    let mut seen = [0u8; MAX_SITES];
     let mut order: u64 = 1;
     let mut q = 0;
     while q < perm.len() {
         if seen[q] != 1 {
             let length = mark_cycle(perm, q, &mut seen);
             order = lcm(order, length as u64);
-            if 4294967295 < order {
+            if MAX_DECLARED < order {
                 return ExactOrder::Overflow;
             }
         }
@@ -121,17 +126,17 @@ pub fn exact_order(perm: &[u32]) -> ExactOrder
 
 // The first two generators, left then right, that differ at some site when they are applied in either order.
 pub fn first_pair(targets: &[u32], generators: usize, sites: usize) -> Pair
-    requires { ⌜ (length (now targets) ≡ 1024) × (generators ≤ 4) × (sites ≤ 256) ⌝ }
-    requires { ⌜ ((g q : ℕ) → g < generators → q < sites → getD (now targets) (256 * g + q) 0 < sites) ⌝ }
+    requires { ⌜ (length (now targets) ≡ targetPlaces) × (generators ≤ maxGenerators) × (sites ≤ maxSites) ⌝ }
+    requires { ⌜ ((g q : ℕ) → g < generators → q < sites → getD (now targets) (maxSites * g + q) 0 < sites) ⌝ }
     ensures { λ r. ⌜ pairCheck r ≡ pairsCheck sites 0 (rowsOf generators sites (now (targets .entry))) ⌝ }
 {
     let mut found = Pair::Nothing;
     'pairs: for left in 0..generators {
         for right in left + 1..generators {
             for q in 0..sites {
-                let l = targets[256 * left + q] as usize;
-                let r = targets[256 * right + q] as usize;
-                if targets[256 * left + r] != targets[256 * right + l] {
+                let l = targets[MAX_SITES * left + q] as usize;
+                let r = targets[MAX_SITES * right + q] as usize;
+                if targets[MAX_SITES * left + r] != targets[MAX_SITES * right + l] {
                     found = Pair::Found(left, right);
                     break 'pairs;
                 }
@@ -151,7 +156,7 @@ pub fn group_order(orders: &[u32], generators: usize) -> Product
     let mut g = 0;
     while g < generators {
         let o = orders[g] as u64;
-        if 18446744073709551615 / o < order {
+        if MAX_WIDE / o < order {
             return Product::Overflow;
         }
         order = order * o;
