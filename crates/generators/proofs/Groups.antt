@@ -4,7 +4,7 @@
 use Prim.Native.Nat.{ℕ, zero, suc, _+_, _-_, _*_, _≤_, _<_}
 use mathlib.Core.Path.{_≡_, refl, sym, ap, ap₂, _∙_}
 use mathlib.Core.Logic.{inl, inr}
-use mathlib.Core.Bool.{Bool, true, false, not, _&&_, cond, false≢true, and-eq-true-iff}
+use mathlib.Core.Bool.{Bool, true, false, not, _&&_, cond, and-eq-true-iff, false≢true}
 use mathlib.Core.List.{List, [], _∷_, _++_, map, append-assoc}
 use native.Mathlib.Nat.{not-suc-le-zero, le-of-suc-le-suc, le-refl}
 use native.Mathlib.Omega.{arith}
@@ -196,6 +196,9 @@ module _ (n : ℕ) (perms : List (List ℕ)) (orders : List ℕ) (small : n ≤ 
   whole : (p : List ℕ) → Member p perms → length p ≡ n
   whole p m = perms-fine n 0 perms (five .0) p m .long
 
+  room : length perms ≤ maxGenerators
+  room = ltb-false maxGenerators (length perms) (three .0)
+
   pub placed-rows : rowsOf (length perms) n (placedAll perms) ≡ perms
   placed-rows = rows-placed n perms small whole
 
@@ -204,13 +207,21 @@ module _ (n : ℕ) (perms : List (List ℕ)) (orders : List ℕ) (small : n ≤ 
 
   pub placed-hold : holdGroup (length perms) n (placedAll perms) (filled maxGenerators orders) ≡ true
   placed-hold =
-      hold-unused (length perms) n (placedAll perms) (filled maxGenerators orders) (ltb-false maxGenerators (length perms) (three .0))
+      hold-unused (length perms) n (placedAll perms) (filled maxGenerators orders) room
       (rw placed-rows (five .0)) (rw (placed-rows, placed-orders) (five .1))
       ∙ rw (
         rests-placed n perms small whole,
         unused-placed n perms small whole,
         zeros-filled maxGenerators (length perms) orders (sym same-count),
       )
+
+  -- their tables fill their places
+  pub placed-long : length (placedAll perms) ≡ targetPlaces
+  unfolding placedAll
+  placed-long = filled-length targetPlaces (placed perms) (omega (arith, placed-length perms (short n perms small whole), room))
+
+  pub orders-long : length (filled maxGenerators orders) ≡ maxGenerators
+  orders-long = filled-length maxGenerators orders (omega (arith, room, same-count))
 
 -- ---- a list that writes permutations
 

@@ -1,0 +1,222 @@
+-- Group values and the generators that give them: what checked generators make is a group that holds them, and a value that is a group is made of
+-- the generators that it holds.
+-- What carries it: tables that hold a group are those of the generators that they hold (`hold-placed`), and the tables of generators that break no
+-- rule hold them (`placed-hold`).
+use Prim.Native.Nat.{ℕ, _*_, _≤_, _<_}
+use mathlib.Core.Path.{_≡_, refl, sym, ap, _∙_}
+use mathlib.Core.Bool.{false}
+use mathlib.Core.List.{List, [], _∷_, map}
+use native.Mathlib.Nat.{suc-inj, suc-ne-zero}
+use native.Mathlib.Omega.{arith}
+use lib.Dec.{ltb}
+use lib.ListN.{length, take, length-map}
+use lib.Seq.{length-take-le}
+use borrow.Author.Tests.{leb-true, le-leb, ltb-true, ltb-false, le-ltb, eq-eqb, not-false}
+use Rattle.pauli_word.specs.Limits.{maxSites, planeLength, wordLength}
+use Rattle.pauli_word.specs.Outcome.{Outcome, refused, answer, Check, verdict, given, unless}
+use Rattle.pauli_word.specs.Bytes.{AcceptedWord}
+use Rattle.pauli_word.specs.Calls.{siteCount}
+use Rattle.action.specs.Permutation.{Generator, Valid}
+use Rattle.action.specs.Index.{orderOf}
+use Rattle.permutation.specs.Limits.{maxGenerators, maxOrder, targetPlaces}
+use Rattle.permutation.specs.Generators.{permsOf, listEnd, generatorChecks, declared, rowsOf}
+use Rattle.permutation.proofs.Pairs.{rows-length}
+use Rattle.permutation.proofs.Rules.{verdict-fine, checks-of-valid}
+use Rattle.generators.specs.Tables.{filled, placedAll}
+use Rattle.generators.specs.Parts.{anyZero}
+use Rattle.generators.proofs.Groups.{hold-valid, hold-placed, same-count, placed-rows, placed-orders, placed-hold, placed-long, orders-long, written, written-ends, written-perms}
+use Rattle.orbit.proofs.Tables.{generators-of}
+use Rattle.group.specs.declared.Group.{Group}
+use Rattle.group.specs.Value.{groupOf, tryFromOutcome, GivenBy, generatorsOf, isGroup, AcceptedGroup}
+use Rattle.group.specs.Calls.{zeroSide, sidesLimit, latticeOutcome, wordCallChecks}
+use Rattle.group.proofs.Lattices.{Sized, sized}
+
+-- the lists of a group value are as long as their places
+pub record Long (g : Group) : Type 0 where
+  pub targets : length (g .targets) ≡ targetPlaces
+  pub orders : length (g .orders) ≡ maxGenerators
+
+-- ---- permutations with their orders, taken apart and put together again
+
+declared-perms : (perms : List (List ℕ)) (orders : List ℕ) → length perms ≡ length orders → map (λ x. x .perm) (declared perms orders) ≡ perms
+unfolding declared
+declared-perms [] orders e = refl
+declared-perms (p ∷ perms) [] e = absurd (suc-ne-zero (length perms) e)
+declared-perms (p ∷ perms) (o ∷ orders) e = ap (λ (l : List (List ℕ)). p ∷ l) (declared-perms perms orders (suc-inj e))
+
+declared-orders : (perms : List (List ℕ)) (orders : List ℕ) → length perms ≡ length orders → map (λ x. x .order) (declared perms orders) ≡ orders
+unfolding declared
+declared-orders [] [] e = refl
+declared-orders [] (o ∷ orders) e = absurd (suc-ne-zero (length orders) (sym e))
+declared-orders (p ∷ perms) [] e = absurd (suc-ne-zero (length perms) e)
+declared-orders (p ∷ perms) (o ∷ orders) e = ap (λ (l : List ℕ). o ∷ l) (declared-orders perms orders (suc-inj e))
+
+declared-parts : (gs : List Generator) → declared (map (λ x. x .perm) gs) (map (λ x. x .order) gs) ≡ gs
+unfolding declared
+declared-parts [] = refl
+declared-parts (g ∷ gs) = ap (λ (l : List Generator). g ∷ l) (declared-parts gs)
+
+-- the value of permutations with their orders
+group-parts :
+    (n : ℕ) (perms : List (List ℕ)) (orders : List ℕ) → length perms ≡ length orders
+    → groupOf n (declared perms orders)
+    ≡ record { sites = n; generators = length perms; orders = filled maxGenerators orders; targets = placedAll perms }
+unfolding groupOf
+group-parts n perms orders e =
+    let ps = declared-perms perms orders e in
+    let os = declared-orders perms orders e in
+    let k : length (declared perms orders) ≡ length perms = sym (length-map (declared perms orders) (λ x. x .perm)) ∙ ap length ps in
+    λ i. record { sites = n; generators = k i; orders = filled maxGenerators (os i); targets = placedAll (ps i) }
+
+-- ---- what a call that answers has passed
+
+pub unless-answer : {A : Type 0} (cs : List Check) (a b : A) → unless cs (answer a) ≡ answer b → (verdict cs ≡ answer tt) × (a ≡ b)
+unless-answer cs a b e = go (verdict cs) refl e
+  where
+    go : (v : Outcome (Unit {0})) → verdict cs ≡ v → given v (answer a) ≡ answer b → (verdict cs ≡ answer tt) × (a ≡ b)
+    go (refused k vs) p q = let z : _≡_ {A = ℕ} 0 1 = cc in absurd (omega arith)
+    go (answer tt) p q = (p, cc)
+
+-- ---- generators that break no rule
+
+module _ (n : ℕ) (perms : List (List ℕ)) (orders : List ℕ) (small : n ≤ maxSites) (fine : verdict (generatorChecks n perms orders) ≡ answer tt) where
+  value : groupOf n (declared perms orders) ≡ record { sites = n; generators = length perms; orders = filled maxGenerators orders; targets = placedAll perms }
+  value = group-parts n perms orders (same-count n perms orders small fine)
+
+  checked-accepted : AcceptedGroup (groupOf n (declared perms orders))
+  unfolding isGroup
+  checked-accepted = rw value (record { few = le-leb n maxSites small; isOne = placed-hold n perms orders small fine })
+
+  checked-long : Long (groupOf n (declared perms orders))
+  checked-long = rw value (record { targets = placed-long n perms orders small fine; orders = orders-long n perms orders small fine })
+
+  checked-generators : generatorsOf (groupOf n (declared perms orders)) ≡ declared perms orders
+  unfolding generatorsOf
+  checked-generators =
+      ap generatorsOf value
+      ∙ generators-of (length perms) n (placedAll perms) (filled maxGenerators orders) (placed-rows n perms orders small fine)
+      (placed-orders n perms orders small fine)
+
+-- ---- a value that is made
+
+module _ (n : ℕ) (list orders : List ℕ) (g : Group) (made : tryFromOutcome n list orders ≡ answer g) where
+  passed : (verdict (siteCount n ∷ listEnd list ∷ generatorChecks n (permsOf list) orders) ≡ answer tt)
+      × (groupOf n (declared (permsOf list) orders) ≡ g)
+  unfolding tryFromOutcome
+  passed =
+      unless-answer (siteCount n ∷ listEnd list ∷ generatorChecks n (permsOf list) orders) (groupOf n (declared (permsOf list) orders)) g made
+
+  one : (ltb maxSites n ≡ false) × (verdict (listEnd list ∷ generatorChecks n (permsOf list) orders) ≡ answer tt)
+  one = verdict-fine (siteCount n) (listEnd list ∷ generatorChecks n (permsOf list) orders) (passed .0)
+
+  few : n ≤ maxSites
+  few = ltb-false maxSites n (one .0)
+
+  rules : verdict (generatorChecks n (permsOf list) orders) ≡ answer tt
+  rules = verdict-fine (listEnd list) (generatorChecks n (permsOf list) orders) (one .1) .1
+
+  pub made-accepted : AcceptedGroup g × Long g
+  made-accepted = rw (← passed .1) (checked-accepted n (permsOf list) orders few rules, checked-long n (permsOf list) orders few rules)
+
+  pub made-means : (g .sites ≡ n) × (generatorsOf g ≡ declared (permsOf list) orders)
+  unfolding groupOf
+  made-means = rw (← passed .1) (refl, checked-generators n (permsOf list) orders few rules)
+
+-- ---- valid generators within the limits, as a list writes them
+
+valid-made :
+    (n : ℕ) (perms : List (List ℕ)) (orders : List ℕ) → n ≤ maxSites → length perms ≤ maxGenerators → length perms ≡ length orders
+    → Valid n (declared perms orders) → orderOf (declared perms orders) ≤ maxOrder
+    → tryFromOutcome n (written perms) orders ≡ answer (groupOf n (declared perms orders))
+unfolding tryFromOutcome
+valid-made n perms orders few room same valid small =
+    rw (
+      le-ltb maxSites n few,
+      written-ends perms,
+      written-perms perms,
+      le-ltb maxGenerators (length perms) room,
+      eq-eqb (length perms) (length orders) same,
+      checks-of-valid n perms orders valid small same,
+    )
+
+-- the same by the generators themselves
+generators-made :
+    (n : ℕ) (gs : List Generator) → n ≤ maxSites → length gs ≤ maxGenerators → Valid n gs → orderOf gs ≤ maxOrder
+    → tryFromOutcome n (written (map (λ x. x .perm) gs)) (map (λ x. x .order) gs) ≡ answer (groupOf n gs)
+generators-made n gs few room valid small =
+    let ps = length-map gs (λ x. x .perm) in
+    let os = length-map gs (λ x. x .order) in
+    valid-made n (map (λ x. x .perm) gs) (map (λ x. x .order) gs) few (omega arith) (ps ∙ sym os) (rw (declared-parts gs) valid)
+    (rw (declared-parts gs) small)
+    ∙ ap (λ (l : List Generator). answer (groupOf n l)) (declared-parts gs)
+
+-- ---- lattices: three sides of n sites, and generators that are valid where no side is 0 and the sites are few
+
+pub lattice-generators :
+    (a b c n : ℕ) (gs : List Generator) (g : Group) → a * b * c ≡ n → latticeOutcome (anyZero a b c) n gs ≡ answer g → length gs ≤ maxGenerators
+    → (Sized a b c n → Valid n gs × (orderOf gs ≤ maxSites)) → tryFromOutcome n (written (map (λ x. x .perm) gs)) (map (λ x. x .order) gs) ≡ answer g
+unfolding latticeOutcome
+lattice-generators a b c n gs g e made room law =
+    let (passes, same) = unless-answer (zeroSide (anyZero a b c) ∷ sidesLimit n ∷ []) (groupOf n gs) g made in
+    let (some, rest) = verdict-fine (zeroSide (anyZero a b c)) (sidesLimit n ∷ []) passes in
+    let few : n ≤ maxSites = ltb-false maxSites n (verdict-fine (sidesLimit n) [] rest .0) in
+    let positive : 0 < a * b * c = ltb-true 0 (a * b * c) (not-false (ltb 0 (a * b * c)) some) in
+    let sizes : Sized a b c n = rw (← e) (sized a b c positive (omega arith)) in
+    let (valid, small) = law sizes in
+    generators-made n gs few room valid (omega arith) ∙ ap answer same
+
+-- ---- a value that is a group
+
+-- an accepted word of its sites passes with it
+pub word-passes :
+    (g : Group) → AcceptedGroup g → (bytes : List ℕ) → AcceptedWord planeLength (g .sites) bytes → verdict (wordCallChecks g (g .sites) bytes) ≡ answer tt
+word-passes g ok bytes word =
+    simp (
+      le-ltb maxSites (g .sites) (leb-true (g .sites) maxSites (ok .few)),
+      ok .isOne,
+      eq-eqb (length bytes) wordLength (word .long),
+      eq-eqb (g .sites) (g .sites) refl,
+      word .xClear,
+      word .zClear,
+    )
+
+module _ (g : Group) (ok : AcceptedGroup g) (long : Long g) where
+  sites-few : g .sites ≤ maxSites
+  sites-few = leb-true (g .sites) maxSites (ok .few)
+
+  -- what it holds
+  held : Valid (g .sites) (generatorsOf g) × (orderOf (generatorsOf g) ≤ maxOrder) × (g .generators ≤ maxGenerators)
+  unfolding isGroup generatorsOf
+  held = hold-valid (g .generators) (g .sites) (g .targets) (g .orders) (ok .isOne) (long .orders)
+
+  counted : length (rowsOf (g .generators) (g .sites) (g .targets)) ≡ length (take (g .generators) (g .orders))
+  counted =
+      rows-length (g .generators) (g .sites) (g .targets)
+      ∙ sym (length-take-le (g .generators) (g .orders) (omega (arith, held .2, long .orders)))
+
+  -- it is the value of the generators that it holds
+  held-value : groupOf (g .sites) (declared (rowsOf (g .generators) (g .sites) (g .targets)) (take (g .generators) (g .orders))) ≡ g
+  unfolding isGroup
+  held-value =
+      let rows : List (List ℕ) = rowsOf (g .generators) (g .sites) (g .targets) in
+      let (targets, orders) =
+      hold-placed (g .generators) (g .sites) (g .targets) (g .orders) (ok .isOne) sites-few (long .targets) (long .orders)
+      in
+      let many = rows-length (g .generators) (g .sites) (g .targets) in
+      group-parts (g .sites) rows (take (g .generators) (g .orders)) counted
+      ∙ (λ i. record { sites = g .sites; generators = many i; orders = sym orders i; targets = sym targets i })
+
+  pub held-valid : Valid (g .sites) (generatorsOf g)
+  held-valid = held .0
+
+  pub held-given : GivenBy g
+  unfolding generatorsOf
+  held-given =
+      let perms : List (List ℕ) = rowsOf (g .generators) (g .sites) (g .targets) in
+      let orders : List ℕ = take (g .generators) (g .orders) in
+      let room : length perms ≤ maxGenerators = omega (arith, held .2, rows-length (g .generators) (g .sites) (g .targets)) in
+      record {
+        list = written perms;
+        orders = orders;
+        given = valid-made (g .sites) perms orders sites-few room counted (held .0) (held .1) ∙ ap answer held-value;
+      }

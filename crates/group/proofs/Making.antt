@@ -1,0 +1,161 @@
+-- The group of a list of generators: what its checks come to, rule by rule, and the tables that stand beside the answer.
+-- What carries it: the tables of generators that break no rule have those generators for their rows.
+use Prim.Native.Nat.{ℕ, _-_, _≤_, _<_}
+use mathlib.Core.Path.{_≡_, refl, sym, ap, ap₂, _∙_}
+use mathlib.Core.Bool.{Bool, true, false, cond, false≢true}
+use mathlib.Core.List.{List, [], _∷_, map}
+use native.Mathlib.Nat.{suc-inj, suc-ne-zero}
+use native.Mathlib.Omega.{arith}
+use lib.ListN.{length, take, length-map}
+use lib.Seq.{take-at}
+use borrow.Author.Tests.{lt-ltb, le-ltb, eq-eqb, ne-eqb}
+use Rattle.pauli_word.specs.Limits.{maxSites}
+use Rattle.pauli_word.specs.Outcome.{Outcome, refused, answer, Check, verdict, given, onAnswer, orElse}
+use Rattle.pauli_word.specs.Calls.{siteCount}
+use Rattle.pauli_word.proofs.Checks.{call-answers}
+use Rattle.permutation.specs.Limits.{maxGenerators}
+use Rattle.permutation.specs.Generators.{endsInside, permsOf, listEnd, permsCheck, groupChecks, generatorChecks, declared, rowsOf}
+use Rattle.permutation.proofs.Rules.{perms-fine}
+use Rattle.generators.specs.declared.GroupRefusal.{GroupRefusal}
+use Rattle.generators.specs.declared.list.Scan.the-variants as Scan
+use Rattle.generators.specs.Tables.{filled, placedAll, answers}
+use Rattle.generators.specs.Parts.{scanOutcome, groupRefusalOf}
+use Rattle.generators.proofs.Zeros.{blank}
+use Rattle.generators.proofs.Verdicts.{alone, refusal-no-answer, refused-broken, first-refuses}
+use Rattle.generators.proofs.Groups.{rows-placed}
+use Rattle.group.specs.declared.Group.{Group}
+use Rattle.group.specs.declared.Grouped.the-variants as Grouped
+use Rattle.group.specs.declared.Made.{Made}
+use Rattle.group.specs.Value.{groupOf, noGroup, tryFromOutcome}
+use Rattle.group.specs.Calls.{done, itself, outcomeOfGrouped}
+
+-- ---- the value of generators
+
+-- groups with the same parts are the same
+pub same-group : {g h : Group} → g .sites ≡ h .sites → g .generators ≡ h .generators → g .orders ≡ h .orders → g .targets ≡ h .targets → g ≡ h
+same-group n k o t i = record { sites = n i; generators = k i; orders = o i; targets = t i }
+
+declared-perms : (perms : List (List ℕ)) (orders : List ℕ) → length perms ≡ length orders → map (λ g. g .perm) (declared perms orders) ≡ perms
+unfolding declared
+declared-perms [] orders e = refl
+declared-perms (p ∷ perms) [] e = absurd (suc-ne-zero (length perms) e)
+declared-perms (p ∷ perms) (o ∷ orders) e = ap (λ (l : List (List ℕ)). p ∷ l) (declared-perms perms orders (suc-inj e))
+
+declared-orders : (perms : List (List ℕ)) (orders : List ℕ) → length perms ≡ length orders → map (λ g. g .order) (declared perms orders) ≡ orders
+unfolding declared
+declared-orders [] [] e = refl
+declared-orders [] (o ∷ orders) e = absurd (suc-ne-zero (length orders) (sym e))
+declared-orders (p ∷ perms) [] e = absurd (suc-ne-zero (length perms) e)
+declared-orders (p ∷ perms) (o ∷ orders) e = ap (λ (l : List ℕ). o ∷ l) (declared-orders perms orders (suc-inj e))
+
+-- the tables of permutations with their orders
+abbrev pub tablesOf : ℕ → List (List ℕ) → List ℕ → Group
+tablesOf n perms orders = record { sites = n; generators = length perms; orders = filled maxGenerators orders; targets = placedAll perms }
+
+pub group-tables : (n : ℕ) (perms : List (List ℕ)) (orders : List ℕ) → length perms ≡ length orders → groupOf n (declared perms orders) ≡ tablesOf n perms orders
+unfolding groupOf
+group-tables n perms orders e =
+    let gs = declared perms orders in
+    same-group refl (sym (length-map gs (λ g. g .perm)) ∙ ap length (declared-perms perms orders e)) (ap (filled maxGenerators) (declared-orders perms orders e))
+    (ap placedAll (declared-perms perms orders e))
+
+-- ---- what a list of generators is found to write
+
+pub scan-inside : (list : List ℕ) → scanOutcome list ≡ Scan.EndsInside → endsInside list ≡ true
+unfolding scanOutcome
+scan-inside list e = go (endsInside list) e
+  where
+    go : (b : Bool) → cond b Scan.EndsInside (Scan.Count (length (permsOf list))) ≡ Scan.EndsInside → b ≡ true
+    go true k = refl
+    go false k = let z : _≡_ {A = ℕ} 0 1 = cc in absurd (omega arith)
+
+pub scan-whole : (list : List ℕ) (k : ℕ) → scanOutcome list ≡ Scan.Count k → (endsInside list ≡ false) × (k ≡ length (permsOf list))
+unfolding scanOutcome
+scan-whole list k e = go (endsInside list) e
+  where
+    go : (b : Bool) → cond b Scan.EndsInside (Scan.Count (length (permsOf list))) ≡ Scan.Count k → (b ≡ false) × (k ≡ length (permsOf list))
+    go true h = let z : _≡_ {A = ℕ} 0 1 = cc in absurd (omega arith)
+    go false h = (refl, cc)
+
+-- ---- what stands beside a refusal
+
+refused-stays : {A : Type 0} (v : Outcome (Unit {0})) (o : Outcome A) → answers v ≡ false → v ≡ onAnswer done (given v o)
+refused-stays (refused k vs) o e = refl
+refused-stays (answer t) o e = absurd (false≢true (sym e))
+
+refused-else : {A : Type 0} (v : Outcome (Unit {0})) (o : Outcome A) (z : A) → answers v ≡ false → z ≡ orElse itself z (given v o)
+refused-else (refused k vs) o z e = refl
+refused-else (answer t) o z e = absurd (false≢true (sym e))
+
+-- ---- 1 to 13
+
+module _ (n : ℕ) (list orders : List ℕ) where
+  abbrev pub tryChecks : List Check
+  tryChecks = siteCount n ∷ listEnd list ∷ generatorChecks n (permsOf list) orders
+
+  pub refused-made :
+      (why : GroupRefusal) → verdict tryChecks ≡ groupRefusalOf why → (r : Made) → r .answer ≡ Grouped.Refused why → r .group ≡ noGroup
+      → (outcomeOfGrouped (r .answer) ≡ onAnswer done (tryFromOutcome n list orders)) × (r .group ≡ orElse itself noGroup (tryFromOutcome n list orders))
+  unfolding tryFromOutcome
+  refused-made why e r told none =
+      let v = verdict tryChecks in
+      let o = answer (groupOf n (declared (permsOf list) orders)) in
+      let no = ap answers e ∙ refusal-no-answer why in
+      (ap outcomeOfGrouped told ∙ sym e ∙ refused-stays v o no, none ∙ refused-else v o noGroup no)
+
+  pub answered-made :
+      length (permsOf list) ≡ length orders → verdict tryChecks ≡ answer tt
+      → tryFromOutcome n list orders ≡ answer (tablesOf n (permsOf list) orders)
+  unfolding tryFromOutcome
+  answered-made same e =
+      call-answers tryChecks (answer (groupOf n (declared (permsOf list) orders))) e ∙ ap answer (group-tables n (permsOf list) orders same)
+
+  pub many-sites : maxSites < n → verdict tryChecks ≡ refused 1 []
+  many-sites h = rw (lt-ltb maxSites n h)
+
+  module _ (few : n ≤ maxSites) where
+    pub ends-early : endsInside list ≡ true → verdict tryChecks ≡ refused 2 []
+    ends-early e = rw (le-ltb maxSites n few, e)
+
+    module _ (whole : endsInside list ≡ false) where
+      pub many-generators : maxGenerators < length (permsOf list) → verdict tryChecks ≡ refused 3 []
+      many-generators h = rw (le-ltb maxSites n few, whole, lt-ltb maxGenerators (length (permsOf list)) h)
+
+      module _ (some : length (permsOf list) ≤ maxGenerators) where
+        pub other-count : (length (permsOf list) ≡ length orders → ⊥) → verdict tryChecks ≡ refused 4 (length (permsOf list) ∷ length orders ∷ [])
+        other-count h =
+            rw (
+              le-ltb maxSites n few,
+              whole,
+              le-ltb maxGenerators (length (permsOf list)) some,
+              ne-eqb (length (permsOf list)) (length orders) h,
+            )
+
+        module _ (same : length (permsOf list) ≡ length orders) where
+          pub perms-decide : verdict tryChecks ≡ verdict (permsCheck n 0 (permsOf list) ∷ groupChecks n (permsOf list) orders)
+          perms-decide =
+              rw (
+                le-ltb maxSites n few,
+                whole,
+                le-ltb maxGenerators (length (permsOf list)) some,
+                eq-eqb (length (permsOf list)) (length orders) same,
+              )
+
+          pub perms-refused : (why : GroupRefusal) → groupRefusalOf why ≡ alone (permsCheck n 0 (permsOf list)) → verdict tryChecks ≡ groupRefusalOf why
+          perms-refused why e =
+              let check = permsCheck n 0 (permsOf list) in
+              perms-decide ∙ first-refuses check (groupChecks n (permsOf list) orders) (refused-broken check why e) ∙ sym e
+
+          pub group-decides : permsCheck n 0 (permsOf list) .broken ≡ false → verdict tryChecks ≡ verdict (groupChecks n (permsOf list) orders)
+          group-decides e = perms-decide ∙ rw e
+
+-- ---- the tables that are filled on the way
+
+pub rows-filled :
+    (n k : ℕ) (perms : List (List ℕ)) (targets : List ℕ) → n ≤ maxSites → permsCheck n 0 perms .broken ≡ false → k ≡ length perms
+    → targets ≡ placedAll perms → rowsOf k n targets ≡ perms
+rows-filled n k perms targets few fine count placed =
+    ap₂ (λ (j : ℕ) (l : List ℕ). rowsOf j n l) count placed ∙ rows-placed n perms few (λ p m. perms-fine n 0 perms fine p m .long)
+
+pub orders-filled : (k : ℕ) (orders : List ℕ) → k ≡ length orders → take k (filled maxGenerators orders) ≡ orders
+orders-filled k orders e = take-at orders (blank (maxGenerators - length orders)) k (sym e)

@@ -1,0 +1,12 @@
+-- `inner::no_group` meets its contract: both lists are the zeros that the definition repeats.
+use mathlib.Core.Path.{refl}
+use Rattle.group.specs.Value.{noGroup}
+use Rattle.group.proofs.inner.no_group.Statement.{statement}
+use Rattle.group.proofs.inner.no_group.Tie as tie
+
+returns : tie.Need-returns
+unfolding noGroup
+returns c = refl
+
+pub no-group-spec : {M : Type 1} → statement M
+no-group-spec = tie.close (tie.spec returns)

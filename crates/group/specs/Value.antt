@@ -1,0 +1,65 @@
+-- Group values: what a value holds, which values are groups, and what generators they stand for.
+use Prim.Native.Nat.{ℕ}
+use mathlib.Core.Path.{_≡_}
+use mathlib.Core.Bool.{Bool, true, not}
+use mathlib.Core.List.{List, [], _∷_, map}
+use lib.Dec.{leb}
+use lib.ListN.{length, replicate}
+use Rattle.pauli_word.specs.Limits.{maxSites}
+use Rattle.pauli_word.specs.Outcome.{Outcome, answer, Check, unless}
+use Rattle.pauli_word.specs.Calls.{siteCount}
+use Rattle.action.specs.Permutation.{Generator}
+use Rattle.permutation.specs.Limits.{maxGenerators, targetPlaces}
+use Rattle.permutation.specs.Generators.{permsOf, listEnd, generatorChecks, declared}
+use Rattle.generators.specs.Tables.{filled, placedAll, holdGroup}
+use Rattle.orbit.specs.Tables.{generatorsIn}
+use Rattle.group.specs.declared.Group.{Group}
+
+-- ---- the value of generators: unused places are 0
+
+unfoldable pub groupOf : ℕ → List Generator → Group
+unfolding placedAll
+groupOf n gs = record {
+  sites = n;
+  generators = length gs;
+  orders = filled maxGenerators (map (λ g. g .order) gs);
+  targets = placedAll (map (λ g. g .perm) gs);
+}
+
+-- what stands beside a refusal: a value that says 5 generators, which no call takes for a group
+unfoldable pub noGroup : Group
+noGroup = record { sites = 0; generators = 5; orders = replicate maxGenerators 0; targets = replicate targetPlaces 0 }
+
+-- ---- try_from_generators: 1 to 13, then the group
+
+unfoldable pub tryFromOutcome : ℕ → List ℕ → List ℕ → Outcome Group
+unfolding groupOf declared
+tryFromOutcome n list orders =
+    unless (siteCount n ∷ listEnd list ∷ generatorChecks n (permsOf list) orders) (answer (groupOf n (declared (permsOf list) orders)))
+
+-- a value that accepted generators give
+pub record GivenBy (g : Group) : Type 0 where
+  pub list : List ℕ
+  pub orders : List ℕ
+  pub given : tryFromOutcome (g .sites) list orders ≡ answer g
+
+-- ---- what a value stands for
+
+-- the generators of a value
+unfoldable pub generatorsOf : Group → List Generator
+unfolding generatorsIn
+generatorsOf g = generatorsIn (g .generators) (g .sites) (g .targets) (g .orders)
+
+-- whether a value is a group
+unfoldable pub isGroup : Group → Bool
+unfolding holdGroup
+isGroup g = holdGroup (g .generators) (g .sites) (g .targets) (g .orders)
+
+-- 14: a group value that no accepted generators give
+abbrev pub notAGroup : Group → Check
+notAGroup g = record { number = 14; values = []; broken = not (isGroup g) }
+
+-- an accepted group
+pub record AcceptedGroup (g : Group) : Type 0 where
+  pub few : leb (g .sites) maxSites ≡ true
+  pub isOne : isGroup g ≡ true
