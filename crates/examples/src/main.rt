@@ -1,4 +1,6 @@
 // Runs worked examples through the calls and prints what each comes to; the file `stdout` beside src/ is what it must print.
+mod cycles;
+mod groups;
 mod print;
 mod words;
 
@@ -7,4 +9,11 @@ fn main() {
     words::lengths();
     words::refusals();
     words::order();
+    groups::generators();
+    groups::limits();
+    groups::lattices();
+    groups::indices();
+    groups::least_words();
+    groups::refusals();
+    groups::walks();
 }

@@ -16,6 +16,14 @@ pub fn number(n: usize) {
     io::print_decimal(STDOUT_FILENO, n as u64);
 }
 
+pub fn number32(n: u32) {
+    number(n as usize);
+}
+
+pub fn byte(n: u8) {
+    number(n as usize);
+}
+
 // A refusal by its number.
 pub fn refused(rule: usize) {
     text(b"refused ");

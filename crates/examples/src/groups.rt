@@ -1,0 +1,464 @@
+// Groups: generators accepted and refused, lattices, indices, orbits, least words, the walk. Lists that are lent are looked at before and
+// after a refusal.
+use crate::cycles;
+use crate::cycles::Cycles;
+use crate::print;
+use generators::GroupRefusal;
+use group::Done;
+use group::Group;
+use group::Grouped;
+use group::Lattice;
+use group::LatticeMade;
+use group::Number;
+use group::Refusal;
+use group::Step;
+use group::Walk;
+use pauli_word::Spelled;
+ghost use mathlib.Core.Path.{_≡_};
+ghost use lib.ListN.{length};
+
+// The refusals of generators, 1 to 13, and two faults at once.
+pub fn generators() {
+    make(b"no sites, no generators", 0, &[], &[]);
+    make(b"chain of 4", 4, &[4, 1, 2, 3, 0], &[4]);
+    make(b"two equal swaps", 2, &[2, 1, 0, 2, 1, 0], &[2, 2]);
+    make(b"257 sites", 257, &[], &[]);
+    make(
+        b"a list that ends inside a generator",
+        2,
+        &[2, 1, 0, 3, 0, 1],
+        &[2, 2],
+    );
+    make(
+        b"five generators",
+        1,
+        &[1, 0, 1, 0, 1, 0, 1, 0, 1, 0],
+        &[1, 1, 1, 1, 1],
+    );
+    make(b"two permutations, one order", 2, &[2, 1, 0, 2, 0, 1], &[2]);
+    make(
+        b"a length of 3 on 2 sites",
+        2,
+        &[2, 1, 0, 3, 0, 1, 2],
+        &[2, 2],
+    );
+    make(b"a target out of range", 3, &[3, 0, 3, 1], &[2]);
+    make(b"a target twice", 3, &[3, 0, 1, 1], &[2]);
+    make(
+        b"a target twice, then one out of range",
+        3,
+        &[3, 0, 0, 7],
+        &[2],
+    );
+    make(b"order 0", 2, &[2, 1, 0], &[0]);
+    make(b"order 2 declared 4", 2, &[2, 1, 0], &[4]);
+    make(
+        b"a swap and a rotation of 3",
+        3,
+        &[3, 1, 0, 2, 3, 1, 2, 0],
+        &[2, 3],
+    );
+    make(b"257 sites and a list that ends inside", 257, &[9], &[]);
+    make(
+        b"a wrong length after a wrong order",
+        2,
+        &[2, 1, 0, 1, 0],
+        &[7, 1],
+    );
+}
+
+// Groups at the limits of sites, orders and group order.
+pub fn limits() {
+    let mut ring256 = [0u32; 257];
+    cycles::fill(&mut ring256, Cycles::Ring256);
+    make(b"a ring of 256", 256, &ring256, &[256]);
+    let mut rings = [0u32; 132];
+    cycles::fill(&mut rings, Cycles::Ring32);
+    make(b"four equal rings of 32", 32, &rings, &[32, 32, 32, 32]);
+    let mut five = [0u32; 169];
+    cycles::fill(&mut five, Cycles::Five);
+    make(b"cycles of 4, 5, 13, 37, 109", 168, &five, &[1048580]);
+    let mut four = [0u32; 676];
+    cycles::fill(&mut four, Cycles::Five);
+    make(
+        b"four times cycles of 4, 5, 13, 37, 109",
+        168,
+        &four,
+        &[1048580, 1048580, 1048580, 1048580],
+    );
+    let mut primes = [0u32; 130];
+    cycles::fill(&mut primes, Cycles::Primes);
+    make(
+        b"cycles of the primes 2 to 29, declared order 1",
+        129,
+        &primes,
+        &[1],
+    );
+}
+
+// The lattices, and sides that are refused.
+pub fn lattices() {
+    show(b"chain_1d 4", group::chain_1d(4));
+    show(b"chain_1d 0", group::chain_1d(0));
+    show(b"chain_1d 256", group::chain_1d(256));
+    show(b"chain_1d 257", group::chain_1d(257));
+    show(b"ladder 8 2", group::ladder(8, 2));
+    show(b"ladder 0 9", group::ladder(0, 9));
+    show(b"ladder 2 129", group::ladder(2, 129));
+    show(b"torus_2d 16 16", group::torus_2d(16, 16));
+    show(b"torus_2d 0 300", group::torus_2d(0, 300));
+    show(
+        b"torus_2d 18446744073709551615 2",
+        group::torus_2d(18446744073709551615, 2),
+    );
+    show(b"torus_3d 6 6 7", group::torus_3d(6, 6, 7));
+    show(b"torus_3d 6 7 7", group::torus_3d(6, 7, 7));
+}
+
+fn show(name: &[u8], made: LatticeMade) {
+    print::text(name);
+    print::text(b": ");
+    let answer = made.answer;
+    let lattice = made.group;
+    match answer {
+        Lattice::Accepted => {
+            print::text(b"order ");
+            number_on(group::order(lattice));
+            print::text(b", phase modulus ");
+            number(group::phase_modulus(lattice));
+        }
+        Lattice::ZeroSide => print::refused(26),
+        Lattice::SidesTooLarge => print::refused(27),
+    }
+}
+
+// Indices on the torus of 6 by 4: counters and inverses, and lent lists on refusal.
+pub fn indices() {
+    let torus = group::torus_2d(6, 4).group;
+    index(torus, 0);
+    index(torus, 1);
+    index(torus, 17);
+    index(torus, 23);
+    index(torus, 24);
+    let mut short = [7u32; 1];
+    print::text(b"counter_from_index 5 into 1 place: ");
+    done(group::counter_from_index(torus, 5, &mut short));
+    print::text(b"the list is ");
+    print::number32(short[0]);
+    print::text(b"\n");
+}
+
+fn index(torus: Group, i: usize) {
+    let mut counter = [9u32; 2];
+    print::text(b"index ");
+    print::number(i);
+    print::text(b": counter ");
+    let answer = group::counter_from_index(torus, i, &mut counter);
+    print::number32(counter[0]);
+    print::text(b" ");
+    print::number32(counter[1]);
+    print::text(b", ");
+    done_on(answer);
+    print::text(b", inverse ");
+    number(group::invert_index(torus, i));
+}
+
+// Least words with the index and the counter that lead back.
+pub fn least_words() {
+    let ring4 = group::chain_1d(4).group;
+    let torus = group::torus_2d(2, 2).group;
+    least(ring4, b"XIII");
+    least(ring4, b"XIXI");
+    least(ring4, b"IIII");
+    least(ring4, b"ZYXI");
+    least(torus, b"XIII");
+    least(torus, b"XXII");
+    least(torus, b"YZ");
+    least(torus, b"XIXIX");
+    least(group::chain_1d(2).group, b"XZ");
+    least(group::try_from_generators(0, &[], &[]).group, b"");
+    least(group::chain_1d(0).group, b"XI");
+}
+
+fn least(g: Group, text: &[u8]) {
+    let r = pauli_word::from_text(text);
+    let word = r.word;
+    print::text(b"least of ");
+    print::text(text);
+    print::text(b": ");
+    least_of(g, text.len(), &word);
+}
+
+fn least_of(g: Group, n: usize, word: &[u8]) {
+    let found = group::canonicalize_with_index(g, n, word);
+    let rep = found.word;
+    spell(n, &rep);
+    print::text(b" ");
+    let answer = found.answer;
+    number_on(answer);
+    let mut counter = [9u32; 2];
+    let shifted = group::canonicalize_with_shift(g, n, word, &mut counter);
+    print::text(b"; counter ");
+    print::number32(counter[0]);
+    print::text(b" ");
+    print::number32(counter[1]);
+    print::text(b", ");
+    let shift = shifted.answer;
+    done_on(shift);
+    let plain = group::canonicalize(g, n, word);
+    print::text(b"; ");
+    let same = plain.answer;
+    done(same);
+}
+
+// Values and words that are refused: 1, 14 to 17, and 21 with the list as it was.
+pub fn refusals() {
+    let ring4 = group::chain_1d(4).group;
+    let mut forged = ring4;
+    forged.targets[1023] = 1;
+    print::text(b"an unused place: ");
+    number(group::order(forged));
+    let mut wrong = ring4;
+    wrong.orders[0] = 2;
+    print::text(b"another order: ");
+    number(group::order(wrong));
+    let mut large = ring4;
+    large.sites = 257;
+    print::text(b"a value of 257 sites: ");
+    number(group::order(large));
+    refused_words(ring4, forged);
+}
+
+fn refused_words(ring4: Group, forged: Group) {
+    print::text(b"a word of 257 sites: ");
+    indexed(ring4, 257, &[0u8; 64]);
+    print::text(b"a word of 63 bytes: ");
+    indexed(ring4, 4, &[0u8; 63]);
+    print::text(b"a word of 5 sites: ");
+    indexed(ring4, 5, &[0u8; 64]);
+    let mut high = [0u8; 64];
+    high[0] = 16;
+    print::text(b"a bit at site 4 of 4: ");
+    indexed(ring4, 4, &high);
+    print::text(b"a forged value and a short word: ");
+    indexed(forged, 4, &[0u8; 63]);
+    let mut list = [5u8; 255];
+    print::text(b"an orbit list of 255 bytes: ");
+    done_on(group::orbit_list(ring4, 4, &[0u8; 64], &mut list));
+    print::text(b", first and last byte ");
+    print::byte(list[0]);
+    print::text(b" ");
+    print::byte(list[254]);
+    print::text(b"\n");
+}
+
+fn indexed(g: Group, n: usize, word: &[u8]) {
+    let found = group::canonicalize_with_index(g, n, word);
+    let answer = found.answer;
+    number(answer);
+}
+
+// The walk over the orbit of XIII on a ring of 4, past its end; the orbit list; and the last entry of four rings of 32.
+pub fn walks() {
+    let ring4 = group::chain_1d(4).group;
+    let word = pauli_word::from_text(b"XIII").word;
+    six_steps(ring4, &word);
+    listed(ring4, &word);
+    refused_walk(ring4, &word);
+    last_entry(word);
+}
+
+fn six_steps(ring4: Group, word: &[u8]) {
+    let w0 = group::orbit(ring4, 4, word).walk;
+    let w1 = step(4, w0);
+    let w2 = step(4, w1);
+    let w3 = step(4, w2);
+    let w4 = step(4, w3);
+    let w5 = step(4, w4);
+    let _w6 = step(4, w5);
+}
+
+fn listed(ring4: Group, word: &[u8]) {
+    let mut list = [0u8; 256];
+    print::text(b"orbit_list: ");
+    done_on(group::orbit_list(ring4, 4, word, &mut list));
+    spell_four(&list);
+}
+
+fn spell_four(list: &[u8])
+    requires { ⌜ length (now list) ≡ 256 ⌝ }
+{
+    print::text(b" ");
+    spell(4, &list[0..64]);
+    print::text(b" ");
+    spell(4, &list[64..128]);
+    print::text(b" ");
+    spell(4, &list[128..192]);
+    print::text(b" ");
+    spell(4, &list[192..]);
+    print::text(b"\n");
+}
+
+// What stands beside a refused beginning gives no entry.
+fn refused_walk(ring4: Group, word: &[u8]) {
+    let refused = group::orbit(ring4, 5, word).walk;
+    let _none = step(4, refused);
+}
+
+// From the last index of four equal rings of 32 on: that entry, and then the end.
+fn last_entry(word: [u8; 64]) {
+    let mut rings = [0u32; 132];
+    cycles::fill(&mut rings, Cycles::Ring32);
+    let four = group::try_from_generators(32, &rings, &[32, 32, 32, 32]).group;
+    let last = Walk {
+        group: four,
+        word,
+        index: 1048575,
+    };
+    let end = step(32, last);
+    let _same = step(32, end);
+    let past = Walk {
+        group: four,
+        word,
+        index: 1048577,
+    };
+    let _refused = step(32, past);
+}
+
+fn step(n: usize, walk: Walk) -> Walk {
+    let s = walk.next();
+    let answer = s.answer;
+    let word = s.word;
+    print::text(b"next: ");
+    match answer {
+        Step::Entry(i) => {
+            print::text(b"entry ");
+            print::number(i);
+            print::text(b" ");
+            spell(n, &word);
+            print::text(b"\n");
+        }
+        Step::Finished => print::text(b"finished\n"),
+        Step::Refused(why) => print::refused(rule(why)),
+    }
+    s.walk
+}
+
+fn spell(n: usize, word: &[u8]) {
+    let r = pauli_word::to_text(n, word);
+    let answer = r.answer;
+    let text = r.text;
+    if let Spelled::Letters(k) = answer {
+        print::first(&text, k);
+    }
+}
+
+fn done(d: Done) {
+    done_on(d);
+    print::text(b"\n");
+}
+
+fn done_on(d: Done) {
+    match d {
+        Done::Finished => print::text(b"done"),
+        Done::Refused(why) => one(rule(why)),
+    }
+}
+
+fn number_on(n: Number) {
+    match n {
+        Number::Value(k) => print::number(k),
+        Number::Refused(why) => one(rule(why)),
+    }
+}
+
+fn make(name: &[u8], sites: usize, list: &[u32], orders: &[u32]) {
+    print::text(name);
+    print::text(b": ");
+    let made = group::try_from_generators(sites, list, orders);
+    let answer = made.answer;
+    let value = made.group;
+    report(answer, value);
+}
+
+fn report(answer: Grouped, made: Group) {
+    match answer {
+        Grouped::Accepted => {
+            print::text(b"order ");
+            number(group::order(made));
+        }
+        Grouped::Refused(why) => {
+            refusal(why);
+            print::text(b"; the value beside it: ");
+            number(group::order(made));
+        }
+    }
+}
+
+fn refusal(why: GroupRefusal) {
+    match why {
+        GroupRefusal::TooManySites => one(1),
+        GroupRefusal::ListEndsInside => one(2),
+        GroupRefusal::TooManyGenerators => one(3),
+        GroupRefusal::LengthMismatch(perms, orders) => three(4, perms, orders),
+        GroupRefusal::PermutationLength(g, len) => three(5, g, len),
+        GroupRefusal::TargetOutOfRange(g, t) => three(6, g, t as usize),
+        GroupRefusal::DuplicateTarget(g, t) => three(7, g, t as usize),
+        GroupRefusal::ZeroOrder(g) => two(8, g),
+        GroupRefusal::PermutationOrderOverflow(g) => two(9, g),
+        GroupRefusal::OrderMismatch(g, declared, exact) => four(
+            10,
+            g,
+            declared as usize,
+            exact as usize,
+        ),
+        GroupRefusal::NonCommuting(left, right) => three(11, left, right),
+        GroupRefusal::GroupOrderOverflow => one(12),
+        GroupRefusal::GroupOrderLimit => one(13),
+    }
+}
+
+fn one(rule: usize) {
+    print::text(b"refused ");
+    print::number(rule);
+}
+
+fn two(rule: usize, a: usize) {
+    one(rule);
+    print::text(b" ");
+    print::number(a);
+}
+
+fn three(rule: usize, a: usize, b: usize) {
+    two(rule, a);
+    print::text(b" ");
+    print::number(b);
+}
+
+fn four(rule: usize, a: usize, b: usize, c: usize) {
+    three(rule, a, b);
+    print::text(b" ");
+    print::number(c);
+}
+
+fn number(n: Number) {
+    match n {
+        Number::Value(k) => {
+            print::number(k);
+            print::text(b"\n");
+        }
+        Number::Refused(why) => print::refused(rule(why)),
+    }
+}
+
+pub fn rule(why: Refusal) -> usize {
+    match why {
+        Refusal::TooManySites => 1,
+        Refusal::NotAGroup => 14,
+        Refusal::WordLength => 15,
+        Refusal::OtherSites => 16,
+        Refusal::BitAboveSites => 17,
+        Refusal::IndexRange => 19,
+        Refusal::ListLength => 21,
+    }
+}
