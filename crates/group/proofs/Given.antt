@@ -6,7 +6,6 @@ use Prim.Native.Nat.{ℕ, _*_, _≤_, _<_}
 use mathlib.Core.Path.{_≡_, refl, sym, ap, _∙_}
 use mathlib.Core.Bool.{false}
 use mathlib.Core.List.{List, [], _∷_, map}
-use native.Mathlib.Nat.{suc-inj, suc-ne-zero}
 use native.Mathlib.Omega.{arith}
 use lib.Dec.{ltb}
 use lib.ListN.{length, take, length-map}
@@ -30,43 +29,19 @@ use Rattle.group.specs.declared.Group.{Group}
 use Rattle.group.specs.Value.{groupOf, tryFromOutcome, GivenBy, generatorsOf, isGroup, AcceptedGroup}
 use Rattle.group.specs.Calls.{zeroSide, sidesLimit, latticeOutcome, wordCallChecks}
 use Rattle.group.proofs.Lattices.{Sized, sized}
+use Rattle.group.proofs.Making.{same-group, tablesOf, group-tables}
 
 -- the lists of a group value are as long as their places
 pub record Long (g : Group) : Type 0 where
   pub targets : length (g .targets) ≡ targetPlaces
   pub orders : length (g .orders) ≡ maxGenerators
 
--- ---- permutations with their orders, taken apart and put together again
-
-declared-perms : (perms : List (List ℕ)) (orders : List ℕ) → length perms ≡ length orders → map (λ x. x .perm) (declared perms orders) ≡ perms
-unfolding declared
-declared-perms [] orders e = refl
-declared-perms (p ∷ perms) [] e = absurd (suc-ne-zero (length perms) e)
-declared-perms (p ∷ perms) (o ∷ orders) e = ap (λ (l : List (List ℕ)). p ∷ l) (declared-perms perms orders (suc-inj e))
-
-declared-orders : (perms : List (List ℕ)) (orders : List ℕ) → length perms ≡ length orders → map (λ x. x .order) (declared perms orders) ≡ orders
-unfolding declared
-declared-orders [] [] e = refl
-declared-orders [] (o ∷ orders) e = absurd (suc-ne-zero (length orders) (sym e))
-declared-orders (p ∷ perms) [] e = absurd (suc-ne-zero (length perms) e)
-declared-orders (p ∷ perms) (o ∷ orders) e = ap (λ (l : List ℕ). o ∷ l) (declared-orders perms orders (suc-inj e))
+-- generators, taken apart and put together again
 
 declared-parts : (gs : List Generator) → declared (map (λ x. x .perm) gs) (map (λ x. x .order) gs) ≡ gs
 unfolding declared
 declared-parts [] = refl
 declared-parts (g ∷ gs) = ap (λ (l : List Generator). g ∷ l) (declared-parts gs)
-
--- the value of permutations with their orders
-group-parts :
-    (n : ℕ) (perms : List (List ℕ)) (orders : List ℕ) → length perms ≡ length orders
-    → groupOf n (declared perms orders)
-    ≡ record { sites = n; generators = length perms; orders = filled maxGenerators orders; targets = placedAll perms }
-unfolding groupOf
-group-parts n perms orders e =
-    let ps = declared-perms perms orders e in
-    let os = declared-orders perms orders e in
-    let k : length (declared perms orders) ≡ length perms = sym (length-map (declared perms orders) (λ x. x .perm)) ∙ ap length ps in
-    λ i. record { sites = n; generators = k i; orders = filled maxGenerators (os i); targets = placedAll (ps i) }
 
 -- ---- what a call that answers has passed
 
@@ -80,8 +55,8 @@ unless-answer cs a b e = go (verdict cs) refl e
 -- ---- generators that break no rule
 
 module _ (n : ℕ) (perms : List (List ℕ)) (orders : List ℕ) (small : n ≤ maxSites) (fine : verdict (generatorChecks n perms orders) ≡ answer tt) where
-  value : groupOf n (declared perms orders) ≡ record { sites = n; generators = length perms; orders = filled maxGenerators orders; targets = placedAll perms }
-  value = group-parts n perms orders (same-count n perms orders small fine)
+  value : groupOf n (declared perms orders) ≡ tablesOf n perms orders
+  value = group-tables n perms orders (same-count n perms orders small fine)
 
   checked-accepted : AcceptedGroup (groupOf n (declared perms orders))
   unfolding isGroup
@@ -203,8 +178,8 @@ module _ (g : Group) (ok : AcceptedGroup g) (long : Long g) where
       hold-placed (g .generators) (g .sites) (g .targets) (g .orders) (ok .isOne) sites-few (long .targets) (long .orders)
       in
       let many = rows-length (g .generators) (g .sites) (g .targets) in
-      group-parts (g .sites) rows (take (g .generators) (g .orders)) counted
-      ∙ (λ i. record { sites = g .sites; generators = many i; orders = sym orders i; targets = sym targets i })
+      group-tables (g .sites) rows (take (g .generators) (g .orders)) counted
+      ∙ same-group refl many (sym orders) (sym targets)
 
   pub held-valid : Valid (g .sites) (generatorsOf g)
   held-valid = held .0

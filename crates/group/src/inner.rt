@@ -4,7 +4,7 @@ ghost use mathlib.Core.Bool.{false};
 ghost use mathlib.Core.List.{[], _∷_};
 ghost use Prim.Native.Nat.{_≤_, _<_};
 ghost use lib.ListN.{length};
-ghost use Rattle.pauli_word.specs.Limits.{maxSites, planeLength};
+ghost use Rattle.pauli_word.specs.Limits.{maxSites, planeLength, wordLength};
 ghost use Rattle.pauli_word.specs.Outcome.{onAnswer, orElse, unless, verdict, answer};
 ghost use Rattle.pauli_word.specs.Bytes.{decode, encode, AcceptedWord};
 ghost use Rattle.pauli_word.specs.Calls.{siteCount};
@@ -23,28 +23,29 @@ use crate::Group;
 use crate::Grouped;
 use crate::Lattice;
 use crate::LatticeMade;
-use crate::MAX_GENERATORS;
-use crate::MAX_ORDER;
 use crate::Made;
 use crate::Number;
 use crate::Refusal;
 use crate::Step;
 use crate::Stepped;
-use crate::TARGET_PLACES;
 use crate::Walk;
 use crate::value;
 use crate::value::Pass;
 use generators::GroupRefusal;
 use generators::list::Checked;
 use orbit::walk::LeastWord;
+use pauli_word::WORD_BYTES;
+use permutation::MAX_GENERATORS;
+use permutation::MAX_ORDER;
+use permutation::TARGET_PLACES;
 
-// The value beside a refusal: it says 5 generators.
+// The value beside a refusal: it says one generator more than there may be.
 pub fn no_group() -> Group
     ensures { λ r. ⌜ r ≡ noGroup ⌝ }
 {
     Group {
         sites: 0,
-        generators: 5,
+        generators: MAX_GENERATORS + 1,
         orders: [0u32; MAX_GENERATORS],
         targets: [0u32; TARGET_PLACES],
     }
@@ -217,7 +218,7 @@ pub fn shift_of(group: Group, word: &[u8], counter: &mut [u32]) -> Canonical
     if counter.len() != group.generators {
         return Canonical {
             answer: Done::Refused(Refusal::ListLength),
-            word: [0u8; 64],
+            word: [0u8; WORD_BYTES],
         };
     }
     let found = least_of(group, word);
@@ -246,7 +247,7 @@ pub fn orbit_of(group: Group, word: &[u8], list: &mut [u8]) -> Done
     ensures list { λ _. ⌜ now (list .exit) ≡ orElse encodeAll (now (list .entry)) (orbitListOutcome group (group .sites) (now (word .entry)) (length (now (list .entry)))) ⌝ }
 {
     let order = order_of(group);
-    if list.len() != 64 * order {
+    if list.len() != WORD_BYTES * order {
         return Done::Refused(Refusal::ListLength);
     }
     let targets = group.targets;
@@ -269,17 +270,17 @@ pub fn no_walk() -> Walk
 {
     Walk {
         group: no_group(),
-        word: [0u8; 64],
+        word: [0u8; WORD_BYTES],
         index: MAX_ORDER + 1,
     }
 }
 
 // The walk at its first entry.
 pub fn walk_from(group: Group, word: &[u8]) -> Walk
-    requires { ⌜ length (now word) ≡ 64 ⌝ }
+    requires { ⌜ length (now word) ≡ wordLength ⌝ }
     ensures { λ r. ⌜ (r .group ≡ group) × (r .word ≡ now (word .entry)) × (r .index ≡ 0) ⌝ }
 {
-    let mut first = [0u8; 64];
+    let mut first = [0u8; WORD_BYTES];
     orbit::walk::copy(word, &mut first);
     Walk {
         group,
@@ -323,7 +324,7 @@ pub fn step_of(walk: Walk) -> Stepped
     if order_of(group) <= index {
         return Stepped {
             answer: Step::Finished,
-            word: [0u8; 64],
+            word: [0u8; WORD_BYTES],
             walk,
         };
     }

@@ -17,16 +17,11 @@ ghost use Rattle.group.specs.Calls.{done, itself, outcomeOfGrouped, outc
 use generators::GroupRefusal;
 use generators::lattice::Sides;
 use generators::list::Scan;
+use pauli_word::MAX_SITES;
+use pauli_word::WORD_BYTES;
+use permutation::MAX_GENERATORS;
+use permutation::TARGET_PLACES;
 use value::Pass;
-
-// The most generators.
-pub const MAX_GENERATORS: usize = 4;
-
-// The largest group order.
-pub const MAX_ORDER: usize = 1048576;
-
-// The places for targets: 256 for each generator.
-pub const TARGET_PLACES: usize = 1024;
 
 // A group by its generators: generator g's targets stand at 256 g, unused places are 0. Each call that takes one tests it first (14).
 pub struct Group {
@@ -92,19 +87,19 @@ pub enum Done {
 // The least word beside its answer; zeros beside a refusal.
 pub struct Canonical {
     pub answer: Done,
-    pub word: [u8; 64],
+    pub word: [u8; WORD_BYTES],
 }
 
 // The least word beside the index that leads from it to the word; zeros beside a refusal.
 pub struct CanonicalIndex {
     pub answer: Number,
-    pub word: [u8; 64],
+    pub word: [u8; WORD_BYTES],
 }
 
 // A walk over a word's orbit: the word that the next step gives, and that step's index. After the last entry the index is the order.
 pub struct Walk {
     pub group: Group,
-    pub word: [u8; 64],
+    pub word: [u8; WORD_BYTES],
     pub index: usize,
 }
 
@@ -123,7 +118,7 @@ pub enum Step {
 
 pub struct Stepped {
     pub answer: Step,
-    pub word: [u8; 64],
+    pub word: [u8; WORD_BYTES],
     pub walk: Walk,
 }
 
@@ -133,7 +128,7 @@ pub fn try_from_generators(sites: usize, list: &[u32], orders: &[u32]) -> Made
     ensures answer { λ r. ⌜ outcomeOfGrouped (r .answer) ≡ onAnswer done (tryFromOutcome sites (now (list .entry)) (now (orders .entry))) ⌝ }
     ensures group { λ r. ⌜ r .group ≡ orElse itself noGroup (tryFromOutcome sites (now (list .entry)) (now (orders .entry))) ⌝ }
 {
-    if pauli_word::MAX_SITES < sites {
+    if MAX_SITES < sites {
         return inner::refused(GroupRefusal::TooManySites);
     }
     let Scan::Count(count) = generators::list::count_generators(list) else {
@@ -267,7 +262,7 @@ pub fn canonicalize(group: Group, n: usize, word: &[u8]) -> Canonical
     match value::word_call_checked(group, n, word) {
         Pass::Refused(why) => Canonical {
             answer: Done::Refused(why),
-            word: [0u8; 64],
+            word: [0u8; WORD_BYTES],
         },
         Pass::Accepted => {
             let least = inner::least_of(group, word);
@@ -288,7 +283,7 @@ pub fn canonicalize_with_index(group: Group, n: usize, word: &[u8]) -> Canonical
     match value::word_call_checked(group, n, word) {
         Pass::Refused(why) => CanonicalIndex {
             answer: Number::Refused(why),
-            word: [0u8; 64],
+            word: [0u8; WORD_BYTES],
         },
         Pass::Accepted => {
             let least = inner::least_of(group, word);
@@ -315,7 +310,7 @@ pub fn canonicalize_with_shift(
     match value::word_call_checked(group, n, word) {
         Pass::Refused(why) => Canonical {
             answer: Done::Refused(why),
-            word: [0u8; 64],
+            word: [0u8; WORD_BYTES],
         },
         Pass::Accepted => inner::shift_of(group, word, counter),
     }
@@ -359,7 +354,7 @@ impl Walk {
         match inner::walk_checked(self) {
             Pass::Refused(why) => Stepped {
                 answer: Step::Refused(why),
-                word: [0u8; 64],
+                word: [0u8; WORD_BYTES],
                 walk: self,
             },
             Pass::Accepted => inner::step_of(self),

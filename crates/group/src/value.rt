@@ -1,6 +1,7 @@
 // Group values: which are groups (14), and the checks of the calls that take one. Whoever calls a function here owes its `requires`.
 ghost use mathlib.Core.Path.{_≡_};
 ghost use Prim.Native.Nat.{_≤_};
+ghost use Rattle.pauli_word.specs.Limits.{maxSites};
 ghost use Rattle.pauli_word.specs.Outcome.{verdict};
 ghost use Rattle.group.specs.Value.{isGroup};
 ghost use Rattle.group.specs.Calls.{valueChecks, wordCallChecks};
@@ -16,7 +17,7 @@ pub enum Pass {
 
 // Whether a value of at most 256 sites is one that accepted generators give.
 pub fn is_group(group: Group) -> bool
-    requires { ⌜ group .sites ≤ 256 ⌝ }
+    requires { ⌜ group .sites ≤ maxSites ⌝ }
     ensures { λ r. ⌜ r ≡ isGroup group ⌝ }
 {
     let targets = group.targets;
