@@ -13,6 +13,7 @@ use group::Number;
 use group::Refusal;
 use group::Step;
 use group::Walk;
+use pauli_word::Ordering;
 use pauli_word::Spelled;
 ghost use mathlib.Core.Path.{_≡_};
 ghost use lib.ListN.{length};
@@ -211,51 +212,65 @@ fn least_of(g: Group, n: usize, word: &[u8]) {
     done(same);
 }
 
-// Values and words that are refused: 1, 14 to 17, and 21 with the list as it was.
+// Values and words that are refused: 1, 14 to 17, and 21. The lent lists are looked at after each refusal.
 pub fn refusals() {
     let ring4 = group::chain_1d(4).group;
     let mut forged = ring4;
     forged.targets[1023] = 1;
-    print::text(b"an unused place: ");
-    number(group::order(forged));
+    value(b"an unused place", forged);
     let mut wrong = ring4;
     wrong.orders[0] = 2;
-    print::text(b"another order: ");
-    number(group::order(wrong));
+    value(b"another order", wrong);
     let mut large = ring4;
     large.sites = 257;
-    print::text(b"a value of 257 sites: ");
-    number(group::order(large));
+    value(b"a value of 257 sites", large);
     refused_words(ring4, forged);
 }
 
-fn refused_words(ring4: Group, forged: Group) {
-    print::text(b"a word of 257 sites: ");
-    indexed(ring4, 257, &[0u8; 64]);
-    print::text(b"a word of 63 bytes: ");
-    indexed(ring4, 4, &[0u8; 63]);
-    print::text(b"a word of 5 sites: ");
-    indexed(ring4, 5, &[0u8; 64]);
-    let mut high = [0u8; 64];
-    high[0] = 16;
-    print::text(b"a bit at site 4 of 4: ");
-    indexed(ring4, 4, &high);
-    print::text(b"a forged value and a short word: ");
-    indexed(forged, 4, &[0u8; 63]);
-    let mut list = [5u8; 255];
-    print::text(b"an orbit list of 255 bytes: ");
-    done_on(group::orbit_list(ring4, 4, &[0u8; 64], &mut list));
-    print::text(b", first and last byte ");
-    print::byte(list[0]);
-    print::text(b" ");
-    print::byte(list[254]);
+fn value(name: &[u8], g: Group) {
+    print::text(name);
+    print::text(b": ");
+    number_on(group::order(g));
+    print::text(b", counter_from_index: ");
+    let mut counter = [9u32; 1];
+    done_on(group::counter_from_index(g, 0, &mut counter));
+    print::text(b", the counter ");
+    print::number32(counter[0]);
     print::text(b"\n");
 }
 
-fn indexed(g: Group, n: usize, word: &[u8]) {
+fn refused_words(ring4: Group, forged: Group) {
+    refused_word(b"a word of 257 sites", ring4, 257, &[0u8; 64]);
+    refused_word(b"a word of 63 bytes", ring4, 4, &[0u8; 63]);
+    refused_word(b"a word of 5 sites", ring4, 5, &[0u8; 64]);
+    let mut high = [0u8; 64];
+    high[0] = 16;
+    refused_word(b"a bit at site 4 of 4", ring4, 4, &high);
+    refused_word(b"a forged value and a short word", forged, 4, &[0u8; 63]);
+    print::text(b"an orbit list of 255 bytes: ");
+    let mut list = [5u8; 255];
+    done_on(group::orbit_list(ring4, 4, &[0u8; 64], &mut list));
+    kept(&list);
+}
+
+fn refused_word(name: &[u8], g: Group, n: usize, word: &[u8]) {
+    print::text(name);
+    print::text(b": ");
     let found = group::canonicalize_with_index(g, n, word);
     let answer = found.answer;
-    number(answer);
+    number_on(answer);
+    print::text(b", orbit_list: ");
+    let mut list = [5u8; 256];
+    done_on(group::orbit_list(g, n, word, &mut list));
+    kept(&list);
+}
+
+// Whether a list of fives is as it was.
+fn kept(list: &[u8]) {
+    match pauli_word::compare(list, &[5u8; 256]) {
+        Ordering::Same => print::text(b", the list as it was\n"),
+        Ordering::Less | Ordering::Greater => print::text(b", the list changed\n"),
+    }
 }
 
 // The walk over the orbit of XIII on a ring of 4, past its end; the orbit list; and the last entry of four rings of 32.

@@ -20,10 +20,6 @@ pub fn number32(n: u32) {
     number(n as usize);
 }
 
-pub fn byte(n: u8) {
-    number(n as usize);
-}
-
 // A refusal by its number.
 pub fn refused(rule: usize) {
     text(b"refused ");
