@@ -5,28 +5,31 @@
 use Prim.Native.Nat.{ℕ, _*_, _≤_, _<_}
 use mathlib.Core.Path.{_≡_, refl, sym, ap, _∙_}
 use mathlib.Core.Bool.{false}
+use mathlib.Core.Logic.{_⊎_, inl, inr}
 use mathlib.Core.List.{List, [], _∷_, map}
 use native.Mathlib.Omega.{arith}
 use lib.Dec.{ltb}
-use lib.ListN.{length, take, length-map}
+use lib.ListN.{length, getD, take, length-map}
 use lib.Seq.{length-take-le}
 use borrow.Author.Tests.{leb-true, le-leb, ltb-true, ltb-false, le-ltb, eq-eqb, not-false}
 use Rattle.pauli_word.specs.Limits.{maxSites, planeLength, wordLength}
 use Rattle.pauli_word.specs.Outcome.{Outcome, refused, answer, Check, verdict, given, unless}
 use Rattle.pauli_word.specs.Bytes.{AcceptedWord}
 use Rattle.pauli_word.specs.Calls.{siteCount}
-use Rattle.action.specs.Permutation.{Generator, Valid}
+use Rattle.action.specs.Lists.{Member}
+use Rattle.action.specs.Permutation.{Generator, Permutes, Valid}
 use Rattle.action.specs.Index.{orderOf}
-use Rattle.permutation.specs.Limits.{maxGenerators, maxOrder, targetPlaces}
-use Rattle.permutation.specs.Generators.{permsOf, listEnd, generatorChecks, declared, rowsOf}
+use Rattle.action.proofs.Lists.{of-member-append}
+use Rattle.permutation.specs.Limits.{maxGenerators, maxOrder, maxDeclared, targetPlaces}
+use Rattle.permutation.specs.Generators.{permsOf, listEnd, permsCheck, ordersCheck, pairsCheck, orderOverflow, orderLimit, groupChecks, generatorChecks, declared, rowsOf}
 use Rattle.permutation.proofs.Pairs.{rows-length}
-use Rattle.permutation.proofs.Rules.{verdict-fine, checks-of-valid}
+use Rattle.permutation.proofs.Rules.{of-member-at, perms-fine, orders-fine, verdict-fine, checks-of-valid}
 use Rattle.generators.specs.Tables.{filled, placedAll}
 use Rattle.generators.specs.Parts.{anyZero}
 use Rattle.generators.proofs.Groups.{hold-valid, hold-placed, same-count, placed-rows, placed-orders, placed-hold, placed-long, orders-long, written, written-ends, written-perms}
 use Rattle.orbit.proofs.Tables.{generators-of}
 use Rattle.group.specs.declared.Group.{Group}
-use Rattle.group.specs.Value.{groupOf, tryFromOutcome, GivenBy, generatorsOf, isGroup, AcceptedGroup}
+use Rattle.group.specs.Value.{groupOf, tryFromOutcome, Fit, GivenBy, generatorsOf, isGroup, AcceptedGroup}
 use Rattle.group.specs.Calls.{zeroSide, sidesLimit, latticeOutcome, wordCallChecks}
 use Rattle.group.proofs.Lattices.{Sized, sized}
 use Rattle.group.proofs.Making.{same-group, tablesOf, group-tables}
@@ -125,6 +128,39 @@ generators-made n gs few room valid small =
     (rw (declared-parts gs) small)
     ∙ ap (λ (l : List Generator). answer (groupOf n l)) (declared-parts gs)
 
+-- ---- what generators that break no rule are written by has 32 bits
+
+target-fits : (n : ℕ) (perm : List ℕ) → n ≤ maxSites → Permutes n perm → Fit perm
+target-fits n perm few ok k m =
+    let (q, l, e) = of-member-at perm 0 k m in
+    let inside : getD perm q 0 < n = ok .inside q (rw (← ok .long) l) in
+    omega (arith, e, few, inside)
+
+written-fits : (n : ℕ) (perms : List (List ℕ)) → n ≤ maxSites → ((perm : List ℕ) → Member perm perms → Permutes n perm) → Fit (written perms)
+unfolding written
+written-fits n [] few ok k m = absurd m
+written-fits n (p ∷ ps) few ok k (inl e) = omega (arith, e, few, ok p (inl refl) .long)
+written-fits n (p ∷ ps) few ok k (inr m) =
+    go (of-member-append p (written ps) k m) (target-fits n p few (ok p (inl refl)) k) (written-fits n ps few (λ q h. ok q (inr h)) k)
+  where
+    go : Member k p ⊎ Member k (written ps) → (Member k p → k ≤ maxDeclared) → (Member k (written ps) → k ≤ maxDeclared) → k ≤ maxDeclared
+    go (inl a) f g = f a
+    go (inr b) f g = g b
+
+module _ (n : ℕ) (perms : List (List ℕ)) (orders : List ℕ) (few : n ≤ maxSites) (same : length perms ≡ length orders)
+    (pass : verdict (permsCheck n 0 perms ∷ groupChecks n perms orders) ≡ answer tt) where
+  five : (permsCheck n 0 perms .broken ≡ false) × (verdict (groupChecks n perms orders) ≡ answer tt)
+  five = verdict-fine (permsCheck n 0 perms) (groupChecks n perms orders) pass
+
+  list-fits : Fit (written perms)
+  list-fits = written-fits n perms few (perms-fine n 0 perms (five .0))
+
+  orders-fit : Fit orders
+  orders-fit k m =
+      let (g, l, e) = of-member-at orders 0 k m in
+      let eight = verdict-fine (ordersCheck 0 perms orders) (pairsCheck n 0 perms ∷ orderOverflow orders ∷ orderLimit orders ∷ []) (five .1) in
+      omega (arith, e, orders-fine 0 perms orders (eight .0) same g (rw same l) .1)
+
 -- ---- lattices: three sides of n sites, and generators that are valid where no side is 0 and the sites are few
 
 pub lattice-generators :
@@ -190,8 +226,11 @@ module _ (g : Group) (ok : AcceptedGroup g) (long : Long g) where
       let perms : List (List ℕ) = rowsOf (g .generators) (g .sites) (g .targets) in
       let orders : List ℕ = take (g .generators) (g .orders) in
       let room : length perms ≤ maxGenerators = omega (arith, held .2, rows-length (g .generators) (g .sites) (g .targets)) in
+      let pass = checks-of-valid (g .sites) perms orders (held .0) (held .1) counted in
       record {
         list = written perms;
         orders = orders;
+        listFits = list-fits (g .sites) perms orders sites-few counted pass;
+        ordersFit = orders-fit (g .sites) perms orders sites-few counted pass;
         given = valid-made (g .sites) perms orders sites-few room counted (held .0) (held .1) ∙ ap answer held-value;
       }

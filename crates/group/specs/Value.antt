@@ -1,5 +1,5 @@
 -- Group values: what a value holds, which values are groups, and what generators they stand for.
-use Prim.Native.Nat.{ℕ}
+use Prim.Native.Nat.{ℕ, _≤_}
 use mathlib.Core.Path.{_≡_}
 use mathlib.Core.Bool.{Bool, true, not}
 use mathlib.Core.List.{List, [], _∷_, map}
@@ -8,8 +8,9 @@ use lib.ListN.{length, replicate}
 use Rattle.pauli_word.specs.Limits.{maxSites}
 use Rattle.pauli_word.specs.Outcome.{Outcome, answer, Check, unless}
 use Rattle.pauli_word.specs.Calls.{siteCount}
+use Rattle.action.specs.Lists.{Member}
 use Rattle.action.specs.Permutation.{Generator}
-use Rattle.permutation.specs.Limits.{maxGenerators, targetPlaces}
+use Rattle.permutation.specs.Limits.{maxGenerators, maxDeclared, targetPlaces}
 use Rattle.permutation.specs.Generators.{permsOf, listEnd, generatorChecks, declared}
 use Rattle.generators.specs.Tables.{filled, placedAll, holdGroup}
 use Rattle.orbit.specs.Tables.{generatorsIn}
@@ -37,10 +38,16 @@ unfolding groupOf declared
 tryFromOutcome n list orders =
     unless (siteCount n ∷ listEnd list ∷ generatorChecks n (permsOf list) orders) (answer (groupOf n (declared (permsOf list) orders)))
 
+-- numbers that the code's lists hold, of 32 bits
+abbrev pub Fit : List ℕ → Type 0
+Fit list = (k : ℕ) → Member k list → k ≤ maxDeclared
+
 -- a value that accepted generators give
 pub record GivenBy (g : Group) : Type 0 where
   pub list : List ℕ
   pub orders : List ℕ
+  pub listFits : Fit list
+  pub ordersFit : Fit orders
   pub given : tryFromOutcome (g .sites) list orders ≡ answer g
 
 -- ---- what a value stands for

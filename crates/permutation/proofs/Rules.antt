@@ -263,7 +263,7 @@ member-at [] d g l = absurd (not-suc-le-zero l)
 member-at (x ∷ xs) d zero l = inl refl
 member-at (x ∷ xs) d (suc g) l = inr (member-at xs d g (le-of-suc-le-suc l))
 
-of-member-at : {A : Type 0} (xs : List A) (d a : A) → Member a xs → (g : ℕ) × (g < length xs) × (a ≡ getD xs g d)
+pub of-member-at : {A : Type 0} (xs : List A) (d a : A) → Member a xs → (g : ℕ) × (g < length xs) × (a ≡ getD xs g d)
 of-member-at [] d a m = absurd m
 of-member-at (x ∷ xs) d a (inl e) = (0, zero-lt-suc (length xs), e)
 of-member-at (x ∷ xs) d a (inr m) = let (g, l, e) = of-member-at xs d a m in (suc g, suc-le-suc l, e)
