@@ -18,7 +18,7 @@ use pauli_word::Spelled;
 ghost use mathlib.Core.Path.{_≡_};
 ghost use lib.ListN.{length};
 
-// The refusals of generators, 1 to 13, and two faults at once.
+// Accepted generators, and the refusals of a list, 1 to 4.
 pub fn generators() {
     make(b"no sites, no generators", 0, &[], &[]);
     make(b"chain of 4", 4, &[4, 1, 2, 3, 0], &[4]);
@@ -37,6 +37,10 @@ pub fn generators() {
         &[1, 1, 1, 1, 1],
     );
     make(b"two permutations, one order", 2, &[2, 1, 0, 2, 0, 1], &[2]);
+}
+
+// The refusals of generators that are read whole, 5 to 11, and two faults at once.
+pub fn faults() {
     make(
         b"a length of 3 on 2 sites",
         2,

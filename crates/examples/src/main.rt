@@ -10,6 +10,7 @@ fn main() {
     words::refusals();
     words::order();
     groups::generators();
+    groups::faults();
     groups::limits();
     groups::lattices();
     groups::indices();
