@@ -26,7 +26,9 @@ given-refusal Refusal.NotAGroup o = refl
 given-refusal Refusal.WordLength o = refl
 given-refusal Refusal.OtherSites o = refl
 given-refusal Refusal.BitAboveSites o = refl
+given-refusal Refusal.ModeCount o = refl
 given-refusal Refusal.IndexRange o = refl
+given-refusal Refusal.CounterLength o = refl
 given-refusal Refusal.ListLength o = refl
 
 pub call-refused : {A : Type 0} (cs : List Check) (o : Outcome A) (why : Refusal) → verdict cs ≡ refusalOf why → unless cs o ≡ refusalOf why
@@ -53,7 +55,9 @@ refusal-stays f Refusal.NotAGroup = refl
 refusal-stays f Refusal.WordLength = refl
 refusal-stays f Refusal.OtherSites = refl
 refusal-stays f Refusal.BitAboveSites = refl
+refusal-stays f Refusal.ModeCount = refl
 refusal-stays f Refusal.IndexRange = refl
+refusal-stays f Refusal.CounterLength = refl
 refusal-stays f Refusal.ListLength = refl
 
 pub refusal-else : {A B : Type 0} (f : A → B) (z : B) (why : Refusal) → orElse f z (refusalOf why) ≡ z
@@ -62,7 +66,9 @@ refusal-else f z Refusal.NotAGroup = refl
 refusal-else f z Refusal.WordLength = refl
 refusal-else f z Refusal.OtherSites = refl
 refusal-else f z Refusal.BitAboveSites = refl
+refusal-else f z Refusal.ModeCount = refl
 refusal-else f z Refusal.IndexRange = refl
+refusal-else f z Refusal.CounterLength = refl
 refusal-else f z Refusal.ListLength = refl
 
 -- ---- after a pass

@@ -56,7 +56,9 @@ refusalOf Refusal.NotAGroup = refused 14 []
 refusalOf Refusal.WordLength = refused 15 []
 refusalOf Refusal.OtherSites = refused 16 []
 refusalOf Refusal.BitAboveSites = refused 17 []
+refusalOf Refusal.ModeCount = refused 18 []
 refusalOf Refusal.IndexRange = refused 19 []
+refusalOf Refusal.CounterLength = refused 20 []
 refusalOf Refusal.ListLength = refused 21 []
 
 abbrev pub outcomeOfNumber : Number → Outcome ℕ

@@ -4,7 +4,7 @@
 // No call here asks anything of its caller: bad input is refused by number, lent lists are then as they were, and what comes back beside
 // a refusal passes for nothing.
 pub mod inner;
-mod value;
+pub mod value;
 
 ghost use mathlib.Core.Path.{_≡_};
 ghost use lib.ListN.{length};
@@ -68,8 +68,12 @@ pub enum Refusal {
     OtherSites,
     // 17
     BitAboveSites,
+    // 18: as many modes as generators are needed.
+    ModeCount,
     // 19: an index not below the group order.
     IndexRange,
+    // 20: as many digits as generators are needed.
+    CounterLength,
     // 21: a lent list of another length than needed.
     ListLength,
 }

@@ -14,8 +14,8 @@ use Rattle.pauli_word.specs.declared.Ordering.the-variants.{Less, Same, Greater
 use Rattle.pauli_word.specs.Word.{Word, same, less}
 use Rattle.pauli_word.specs.Bytes.{planeBits, decode, encode, AcceptedWord}
 use Rattle.pauli_word.specs.Calls.{orderOfWords, orderOfBits}
-use Rattle.pauli_word.proofs.Order.{same-refl, same-eq, order-words}
-use Rattle.pauli_word.proofs.Words.{encode-decode, encoded-accepted, encoded-decode}
+use Rattle.pauli_word.proofs.Order.{same-refl, same-eq, less-irrefl, less-total, order-words}
+use Rattle.pauli_word.proofs.Words.{decode-length, encode-decode, encoded-accepted, encoded-decode}
 use Rattle.action.specs.Lists.{from, below, Member}
 use Rattle.action.specs.Permutation.{Generator}
 use Rattle.action.specs.Index.{orderOf}
@@ -110,6 +110,8 @@ module _ (gs : List Generator) (w : Word) (i : ℕ) where
         go (inl e) = rw e (place-first gs w)
         go (inr k) = firstAt-member (lead gs w i) (entries gs w i) (reach gs i w ∷ []) (listed k)
 
+-- ---- what comparing the bytes of two words says
+
 order-less : (v w : Word) → orderOfWords v w ≡ Less → less v w ≡ true
 unfolding orderOfWords
 order-less v w = go (less v w) (less w v)
@@ -127,25 +129,81 @@ order-not-less v w = go (less v w) (less w v)
     go true b h = absurd (h refl)
     go false b h = refl
 
--- what comparing the bytes of the next entry with those of the lead says
+order-same : (v w : Word) → length v ≡ length w → orderOfWords v w ≡ Same → same v w ≡ true
+unfolding orderOfWords
+order-same v w l = go (less v w) (less w v) (less-total v w l)
+  where
+    go : (a b : Bool) → (a ≡ true) ⊎ ((v ≡ w) ⊎ (b ≡ true)) → cond a Less (cond b Greater Same) ≡ Same → same v w ≡ true
+    go true b t e = let z : _≡_ {A = ℕ} 0 1 = cc in absurd (omega arith)
+    go false true t e = let z : _≡_ {A = ℕ} 0 1 = cc in absurd (omega arith)
+    go false false (inl h) e = absurd (false≢true h)
+    go false false (inr (inl h)) e = rw h (same-refl w)
+    go false false (inr (inr h)) e = absurd (false≢true h)
+
+order-not-same : (v w : Word) → (orderOfWords v w ≡ Same → ⊥) → same v w ≡ false
+unfolding orderOfWords
+order-not-same v w h = go (same v w) refl
+  where
+    go : (b : Bool) → same v w ≡ b → b ≡ false
+    go true t = absurd (h (rw (same-eq v w t, less-irrefl w)))
+    go false t = refl
+
+module _ {n : ℕ} {here best : List ℕ} (h : AcceptedWord planeLength n here) (b : AcceptedWord planeLength n best) {o : Ordering}
+    (eo : o ≡ orderOfBits (planeBits here) (planeBits best)) where
+  pub less-taken : o ≡ Less → less (decode planeLength n here) (decode planeLength n best) ≡ true
+  less-taken e = order-less (decode planeLength n here) (decode planeLength n best) (sym (eo ∙ order-words h b) ∙ e)
+
+  pub less-left : (o ≡ Less → ⊥) → less (decode planeLength n here) (decode planeLength n best) ≡ false
+  less-left f = order-not-less (decode planeLength n here) (decode planeLength n best) (λ e. f (eo ∙ order-words h b ∙ e))
+
+  pub same-taken : o ≡ Same → same (decode planeLength n here) (decode planeLength n best) ≡ true
+  same-taken e =
+      order-same (decode planeLength n here) (decode planeLength n best) (decode-length h ∙ sym (decode-length b)) (sym (eo ∙ order-words h b) ∙ e)
+
+  pub same-left : (o ≡ Same → ⊥) → same (decode planeLength n here) (decode planeLength n best) ≡ false
+  same-left f = order-not-same (decode planeLength n here) (decode planeLength n best) (λ e. f (eo ∙ order-words h b ∙ e))
+
+-- the next entry takes the lead or leaves it
 module _ {k n : ℕ} {targets orders : List ℕ} (t : Tables k n targets orders) (w : Word) (long : length w ≡ n) (i : ℕ) {here best : List ℕ}
     (eh : here ≡ encode planeLength (reach (generatorsIn k n targets orders) i w))
-    (eb : best ≡ encode planeLength (lead (generatorsIn k n targets orders) w i))
-    {o : Ordering} (eo : o ≡ orderOfBits (planeBits here) (planeBits best)) where
-  compared : o ≡ orderOfWords (reach (generatorsIn k n targets orders) i w) (lead (generatorsIn k n targets orders) w i)
+    (eb : best ≡ encode planeLength (lead (generatorsIn k n targets orders) w i)) where
+  lowest : length (lead (generatorsIn k n targets orders) w i) ≡ n
+  lowest = lead-length (generatorsIn k n targets orders) w i ∙ long
+
+  pub lead-accepted : AcceptedWord planeLength n best
+  lead-accepted = encoded-accepted planeLength (lead (generatorsIn k n targets orders) w i) lowest (t .sites) eb
+
+  -- of the bytes, as of the words
+  compared : less (decode planeLength n here) (decode planeLength n best)
+      ≡ less (reach (generatorsIn k n targets orders) i w) (lead (generatorsIn k n targets orders) w i)
   compared =
       let gs : List Generator = generatorsIn k n targets orders in
-      let there : length (reach gs i w) ≡ n = reach-length gs i w ∙ long in
-      let lowest : length (lead gs w i) ≡ n = lead-length gs w i ∙ long in
-      eo
-      ∙ order-words (encoded-accepted planeLength (reach gs i w) there (t .sites) eh) (encoded-accepted planeLength (lead gs w i) lowest (t .sites) eb)
-      ∙ ap₂ orderOfWords (encoded-decode planeLength (reach gs i w) there (t .sites) eh) (encoded-decode planeLength (lead gs w i) lowest (t .sites) eb)
+      ap₂ less (encoded-decode planeLength (reach gs i w) (reach-length gs i w ∙ long) (t .sites) eh)
+      (encoded-decode planeLength (lead gs w i) lowest (t .sites) eb)
 
-  pub less-taken : o ≡ Less → less (reach (generatorsIn k n targets orders) i w) (lead (generatorsIn k n targets orders) w i) ≡ true
-  less-taken e = order-less (reach (generatorsIn k n targets orders) i w) (lead (generatorsIn k n targets orders) w i) (sym compared ∙ e)
+  pub lead-bytes : {next : List ℕ} → next ≡ cond (less (decode planeLength n here) (decode planeLength n best)) here best
+      → next ≡ encode planeLength (lead (generatorsIn k n targets orders) w (i + 1))
+  lead-bytes {next} e = go (less (decode planeLength n here) (decode planeLength n best)) refl
+    where
+      gs : List Generator
+      gs = generatorsIn k n targets orders
 
-  pub less-left : (o ≡ Less → ⊥) → less (reach (generatorsIn k n targets orders) i w) (lead (generatorsIn k n targets orders) w i) ≡ false
-  less-left h = order-not-less (reach (generatorsIn k n targets orders) i w) (lead (generatorsIn k n targets orders) w i) (λ e. h (compared ∙ e))
+      go : (b : Bool) → less (decode planeLength n here) (decode planeLength n best) ≡ b → next ≡ encode planeLength (lead gs w (i + 1))
+      go true h = e ∙ rw h (eh ∙ ap (encode planeLength) (sym (lead-taken gs w i (sym compared ∙ h))))
+      go false h = e ∙ rw h (eb ∙ ap (encode planeLength) (sym (lead-kept gs w i (sym compared ∙ h))))
+
+  pub lead-place : {index next : ℕ} → index ≡ firstAt (lead (generatorsIn k n targets orders) w i) (entries (generatorsIn k n targets orders) w i)
+      → next ≡ cond (less (decode planeLength n here) (decode planeLength n best)) i index
+      → next ≡ firstAt (lead (generatorsIn k n targets orders) w (i + 1)) (entries (generatorsIn k n targets orders) w (i + 1))
+  lead-place {index} {next} p e = go (less (decode planeLength n here) (decode planeLength n best)) refl
+    where
+      gs : List Generator
+      gs = generatorsIn k n targets orders
+
+      go : (b : Bool) → less (decode planeLength n here) (decode planeLength n best) ≡ b
+          → next ≡ firstAt (lead gs w (i + 1)) (entries gs w (i + 1))
+      go true h = e ∙ rw h (sym (place-taken gs w i (sym compared ∙ h)))
+      go false h = e ∙ rw h (p ∙ sym (place-kept gs w i (sym compared ∙ h)))
 
 -- ---- before the first entry, and after the last
 

@@ -36,7 +36,7 @@ from-next (suc n) a =
     let e : suc a + n ≡ a + suc n = omega arith in
     ap (λ (t : List ℕ). a ∷ t) (from-next n (suc a) ∙ rw e)
 
-below-next : (n : ℕ) → below (n + 1) ≡ below n ++ (n ∷ [])
+pub below-next : (n : ℕ) → below (n + 1) ≡ below n ++ (n ∷ [])
 unfolding below
 below-next n = ap (from 0) (add-one n) ∙ from-next n 0 ∙ rw zero-add
 

@@ -1,8 +1,10 @@
 // The walk over a word's orbit. Whoever calls a function here owes its `requires`.
 ghost use mathlib.Core.Path.{_≡_};
 ghost use Prim.Native.Nat.{_*_, _≤_, _<_};
+ghost use mathlib.Core.Bool.{cond};
 ghost use lib.ListN.{length};
 ghost use Rattle.pauli_word.specs.Limits.{planeLength, wordLength};
+ghost use Rattle.pauli_word.specs.Word.{less};
 ghost use Rattle.pauli_word.specs.Bytes.{decode, encode, AcceptedWord};
 ghost use Rattle.action.specs.Permutation.{Permutes};
 ghost use Rattle.action.specs.Index.{orderOf, digits};
@@ -104,6 +106,20 @@ pub fn fill_orbit(
     }
 }
 
+// Puts the word at hand, entry i of the walk, in the place of the best so far if it is less; the index of the one that leads then.
+pub fn take_lead(here: &[u8], sites: usize, i: usize, best: &mut [u8], index: usize) -> usize
+    requires { ⌜ AcceptedWord planeLength sites (now here) ⌝ }
+    requires { ⌜ AcceptedWord planeLength sites (now best) ⌝ }
+    ensures index { λ r. ⌜ r ≡ cond (less (decode planeLength sites (now (here .entry))) (decode planeLength sites (now (best .entry)))) i index ⌝ }
+    ensures best { λ _. ⌜ now (best .exit) ≡ cond (less (decode planeLength sites (now (here .entry))) (decode planeLength sites (now (best .entry)))) (now (here .entry)) (now (best .entry)) ⌝ }
+{
+    let Ordering::Less = pauli_word::compare(here, best) else {
+        return index;
+    };
+    copy(here, best);
+    i
+}
+
 // The least word of the orbit, by walking it whole, and the smallest index that reaches it.
 pub fn canonicalize_odometer(
     targets: &[u32],
@@ -126,10 +142,7 @@ pub fn canonicalize_odometer(
     let mut index = 0;
     let mut i = 0;
     while i < order {
-        if let Ordering::Less = pauli_word::compare(&here, &best) {
-            copy(&here, &mut best);
-            index = i;
-        }
+        index = take_lead(&here, sites, i, &mut best, index);
         advance(targets, orders, generators, sites, i, &mut here);
         i += 1;
     }

@@ -1,18 +1,15 @@
 -- `walk::canonicalize_odometer` meets its contract. The loop's invariant: the least of the first i entries, and its first place among them.
-use Prim.Native.Nat.{_+_, _-_, _≤_}
+use Prim.Native.Nat.{_-_, _≤_}
 use mathlib.Core.Path.{_≡_, refl, sym, ap, _∙_}
-use mathlib.Core.Logic.{⊎-elim}
 use native.Mathlib.Omega.{arith}
-use borrow.Author.Needs.{needs}
 use denote.Ref.{now}
-use lib.ListN.{length}
-use Rattle.pauli_word.specs.Limits.{planeLength, wordLength}
+use Rattle.pauli_word.specs.Limits.{planeLength}
 use Rattle.pauli_word.specs.Bytes.{decode, encode, AcceptedWord}
-use Rattle.pauli_word.proofs.Words.{encode-length, decode-length}
+use Rattle.pauli_word.proofs.Words.{decode-length}
 use Rattle.action.specs.Orbit.{reach, firstAt}
 use Rattle.orbit.specs.Tables.{generatorsIn}
 use Rattle.orbit.proofs.Orbits.{entries, walk-start, walk-accepted, walk-next}
-use Rattle.orbit.proofs.Leads.{lead, lead-start, place-start, less-taken, less-left, lead-taken, place-taken, lead-kept, place-kept, lead-end, place-end}
+use Rattle.orbit.proofs.Leads.{lead, lead-start, place-start, lead-accepted, lead-bytes, lead-place, lead-end, place-end}
 use Rattle.orbit.proofs.walk.canonicalize_odometer.Statement.{statement}
 use Rattle.orbit.proofs.walk.canonicalize_odometer.Tie as tie
 
@@ -30,13 +27,12 @@ here-accepted c =
     let w = decode planeLength (s .args .sites) (now (s .args .word)) in
     walk-accepted (s .pre .0) w (decode-length (s .pre .1 .0)) (l .i) (l .inv .1)
 
-best-length : (c : tie.At-loop Inv-loop μ-loop) → length (c .loop .best) ≡ wordLength
-best-length c =
+best-accepted : (c : tie.At-loop Inv-loop μ-loop) → AcceptedWord planeLength (c .before .before .before .before .before .before .before .before .before .before .args .sites) (c .loop .best)
+best-accepted c =
     let s = c .before .before .before .before .before .before .before .before .before .before in
     let l = c .loop in
-    let gs = generatorsIn (s .args .generators) (s .args .sites) (now (s .args .targets)) (now (s .args .orders)) in
     let w = decode planeLength (s .args .sites) (now (s .args .word)) in
-    ap length (l .inv .2) ∙ encode-length planeLength (lead gs w (l .i))
+    lead-accepted (s .pre .0) w (decode-length (s .pre .1 .0)) (l .i) (l .inv .1) (l .inv .2)
 
 slice-aggregate-copy : tie.Need-slice-aggregate-copy Inv-loop μ-loop
 slice-aggregate-copy c = refl
@@ -61,26 +57,14 @@ loop-holds c =
       place-start gs w,
     )
 
-slice-aggregate-compare : tie.Need-slice-aggregate-compare Inv-loop μ-loop
-slice-aggregate-compare c = sym (here-accepted (c .before .before) .long)
+slice-aggregate-take-lead : tie.Need-slice-aggregate-take-lead Inv-loop μ-loop
+slice-aggregate-take-lead c = sym (here-accepted (c .before .before) .long)
 
-slice-aggregate-compare-2 : tie.Need-slice-aggregate-compare-2 Inv-loop μ-loop
-slice-aggregate-compare-2 c = sym (best-length (c .before .before .before))
+slice-aggregate-take-lead-2 : tie.Need-slice-aggregate-take-lead-2 Inv-loop μ-loop
+slice-aggregate-take-lead-2 c = sym (best-accepted (c .before .before .before) .long)
 
-compare-requires : tie.Need-compare-requires Inv-loop μ-loop
-compare-requires c κs = tt
-
-enum-told : tie.Need-enum-told Inv-loop μ-loop
-enum-told c = search needs
-
-slice-aggregate-copy-3 : tie.Need-slice-aggregate-copy-3 Inv-loop μ-loop
-slice-aggregate-copy-3 c = sym (here-accepted (c .before .before .before .before .before .before .before) .long)
-
-slice-aggregate-copy-4 : tie.Need-slice-aggregate-copy-4 Inv-loop μ-loop
-slice-aggregate-copy-4 c = sym (best-length (c .before .before .before .before .before .before .before .before))
-
-copy-requires-3 : tie.Need-copy-requires-3 Inv-loop μ-loop
-copy-requires-3 c κs = here-accepted (c .before .before .before .before .before .before .before .before) .long ∙ sym (best-length (c .before .before .before .before .before .before .before .before))
+take-lead-requires : tie.Need-take-lead-requires Inv-loop μ-loop
+take-lead-requires c κs = (here-accepted (c .before .before .before), best-accepted (c .before .before .before))
 
 slice-aggregate-advance : tie.Need-slice-aggregate-advance Inv-loop μ-loop
 slice-aggregate-advance c = sym (here-accepted (c .before .before .before .before .before .before) .long)
@@ -96,38 +80,18 @@ add-i c =
 loop-less : tie.Need-loop-less Inv-loop μ-loop
 loop-less c = omega (arith, c .before .before .before .before .before .before .before .loop-test .taken)
 
--- after the comparison: the word at hand takes the lead, or the lead stays
-compared : (c : tie.At-match-came Inv-loop μ-loop)
-    → let s = c .before .before .before .before .before .before .before .before .before .before .before .before .before .before .before in let l = c .before .before .before .before .before .loop in
-    let gs = generatorsIn (s .args .generators) (s .args .sites) (now (s .args .targets)) (now (s .args .orders)) in
-    let w = decode planeLength (s .args .sites) (now (s .args .word)) in
-    (c .match .best ≡ encode planeLength (lead gs w (l .i + 1))) × (c .match .index ≡ firstAt (lead gs w (l .i + 1)) (entries gs w (l .i + 1)))
-compared c =
-    let s = c .before .before .before .before .before .before .before .before .before .before .before .before .before .before .before in
-    let l = c .before .before .before .before .before .loop in
-    let gs = generatorsIn (s .args .generators) (s .args .sites) (now (s .args .targets)) (now (s .args .orders)) in
-    let w = decode planeLength (s .args .sites) (now (s .args .word)) in
-    let ok = decode-length (s .pre .1 .0) in
-    let order = c .before .compare .ensures in
-    ⊎-elim
-    (λ a.
-    let h = less-taken (s .pre .0) w ok (l .i) (l .inv .1) (l .inv .2) order (a .1 .given .1) in
-    (a .6 ∙ a .4 .ensures ∙ l .inv .1 ∙ ap (encode planeLength) (sym (lead-taken gs w (l .i) h)), a .7 ∙ sym (place-taken gs w (l .i) h)))
-    (λ a.
-    let h = less-left (s .pre .0) w ok (l .i) (l .inv .1) (l .inv .2) order (λ e. ⊎-elim (λ z. omega arith) (λ z. omega arith) (rw e at (a .0 .keys2))) in
-    (a .1 ∙ l .inv .2 ∙ ap (encode planeLength) (sym (lead-kept gs w (l .i) h)), a .2 ∙ l .inv .3 ∙ sym (place-kept gs w (l .i) h)))
-    (c .match .came)
-
 loop-again : tie.Need-loop-again Inv-loop μ-loop
 loop-again c =
     let s = c .before .before .before .before .before .before .before .before .before .before .before .before .before .before .before .before .before .before in
     let l = c .before .before .before .before .before .before .before .before .loop in
+    let t = s .pre .0 in
     let w = decode planeLength (s .args .sites) (now (s .args .word)) in
-    let both = compared (c .before .before .before) in (
+    let long = decode-length (s .pre .1 .0) in
+    let lead = c .before .before .before .before .take-lead .ensures in (
       omega (arith, c .before .before .before .before .before .before .before .loop-test .taken),
-      walk-next (s .pre .0) w (decode-length (s .pre .1 .0)) (l .i) (l .inv .1) (c .before .advance .ensures),
-      both .0,
-      both .1,
+      walk-next t w long (l .i) (l .inv .1) (c .before .advance .ensures),
+      lead-bytes t w long (l .i) (l .inv .1) (l .inv .2) (lead .1),
+      lead-place t w long (l .i) (l .inv .1) (l .inv .2) (l .inv .3) (lead .0),
     )
 
 returns : tie.Need-returns Inv-loop μ-loop
@@ -149,13 +113,9 @@ canonicalize-odometer-spec =
     slice-aggregate-copy-2
     copy-requires-2
     loop-holds
-    slice-aggregate-compare
-    slice-aggregate-compare-2
-    compare-requires
-    enum-told
-    slice-aggregate-copy-3
-    slice-aggregate-copy-4
-    copy-requires-3
+    slice-aggregate-take-lead
+    slice-aggregate-take-lead-2
+    take-lead-requires
     slice-aggregate-advance
     advance-requires
     add-i

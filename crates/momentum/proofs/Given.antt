@@ -1,0 +1,37 @@
+-- A group value that accepted generators give: it is accepted, its lists fill their places, and it holds as many valid generators as it says.
+use Prim.Native.Nat.{_≤_}
+use mathlib.Core.Path.{_≡_}
+use mathlib.Core.Bool.{false}
+use lib.Dec.{ltb}
+use lib.ListN.{length}
+use borrow.Author.Tests.{leb-true, le-ltb}
+use Rattle.pauli_word.specs.Limits.{maxSites}
+use Rattle.action.specs.Permutation.{Valid}
+use Rattle.orbit.proofs.Tables.{generators-length}
+use Rattle.group.specs.declared.Group.{Group}
+use Rattle.group.specs.Value.{GivenBy, generatorsOf, AcceptedGroup}
+use Rattle.group.proofs.Accepted.{accepted-tables}
+use Rattle.group.proofs.Given.{Long, made-accepted, held-valid}
+
+module _ (g : Group) (given : GivenBy g) where
+  made : AcceptedGroup g × Long g
+  made = made-accepted (g .sites) (given .list) (given .orders) g (given .given)
+
+  pub given-accepted : AcceptedGroup g
+  given-accepted = made .0
+
+  pub given-long : Long g
+  given-long = made .1
+
+  pub given-valid : Valid (g .sites) (generatorsOf g)
+  given-valid = held-valid g given-accepted given-long
+
+  pub given-length : length (generatorsOf g) ≡ g .generators
+  unfolding generatorsOf
+  given-length = generators-length (accepted-tables g given-accepted (given-long .targets) (given-long .orders))
+
+  pub given-sites : g .sites ≤ maxSites
+  given-sites = leb-true (g .sites) maxSites (given-accepted .few)
+
+  pub given-few : ltb maxSites (g .sites) ≡ false
+  given-few = le-ltb maxSites (g .sites) given-sites

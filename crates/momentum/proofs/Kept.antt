@@ -1,0 +1,194 @@
+-- What is kept, for a given group: a word is kept where its modes keep it, and counts over the calls are counts over words.
+-- What carries it: no call with an accepted word, a mode and a place of the counter for each generator is refused (`sector-answer`), so that a test
+-- of outcomes is a test of words, and a sum over accepted words is one over words (`pairs-by-words`).
+use Prim.Native.Nat.{ℕ, _*_, _^_, _<_}
+use native.Mathlib.Omega.{arith}
+use mathlib.Core.Path.{_≡_, refl, sym, _∙_, ap, ap₂}
+use mathlib.Core.Logic.{_↔_}
+use mathlib.Core.Bool.{Bool, true, false, _&&_, _||_, not, cond, true≢false}
+use mathlib.Core.List.{List, [], _∷_, _++_}
+use lib.IntN.{ℤ}
+use lib.ListN.{length}
+use borrow.Author.Tests.{ne-eqb, eqb-false}
+use Rattle.pauli_word.specs.Limits.{planeLength}
+use Rattle.pauli_word.specs.Outcome.{answer}
+use Rattle.pauli_word.specs.Word.{Word}
+use Rattle.pauli_word.specs.Bytes.{decode, encode, AcceptedWord}
+use Rattle.pauli_word.proofs.Checks.{call-answers}
+use Rattle.pauli_word.proofs.Words.{decode-length, encoded-accepted, encoded-decode}
+use Rattle.action.specs.Lists.{below, count}
+use Rattle.action.specs.Permutation.{Generator, Valid}
+use Rattle.action.specs.Index.{orderOf, digits}
+use Rattle.action.specs.Orbit.{reach, orbit, isIn, least, indexBack, fixes, fixing, isRepresentative}
+use Rattle.action.specs.Sector.{numerator, trivial, keeps}
+use Rattle.action.specs.Count.{allWords, allModes, representatives, keptLists, keptPairs}
+use Rattle.action.proofs.Lists.{of-member-below, count-cong, total-cong, total-map}
+use Rattle.action.proofs.Pairs.{words-long}
+use Rattle.action.proofs.Canonical.{orbit-intro, orbit-elim, least-length}
+use Rattle.action.proofs.Theorems as Action
+use Rattle.group.specs.declared.Group.{Group}
+use Rattle.group.specs.Value.{GivenBy, generatorsOf}
+use Rattle.group.specs.Calls.{wordCallChecks, listLength, withIndexOutcome}
+use Rattle.group.proofs.Given.{unless-answer, word-passes}
+use Rattle.momentum.specs.Calls.{modeCount, kept, dropped, Row, decision, sectorOutcome}
+use Rattle.momentum.specs.Counts.{acceptedWords, isOwn, isKept, pairs}
+use Rattle.momentum.proofs.Pairs.{count-pairs, count-both, total-select, every-false}
+use Rattle.momentum.proofs.Words.{sameBytes-encode}
+use Rattle.momentum.proofs.Modes.{modes-length}
+use Rattle.momentum.proofs.Traversals.{keeps-broken}
+use Rattle.momentum.proofs.Outcomes.{sector-decision}
+use Rattle.momentum.proofs.Given.{given-accepted, given-valid, given-length, given-sites}
+
+-- ---- the orbit
+
+pub orbit-all : (gs : List Generator) (w u : Word) → (isIn u (orbit gs w) ≡ true) ↔ ((i : ℕ) × (i < orderOf gs) × (u ≡ reach gs i w))
+orbit-all gs w u = (
+  orbit-elim gs w u,
+  λ (h : (i : ℕ) × (i < orderOf gs) × (u ≡ reach gs i w)). rw (h .2) (orbit-intro gs w (h .0) (h .1)),
+)
+
+-- ---- the decision
+
+-- by whether the modes keep the word
+kept-by : (b : Bool) (r : Row) → isKept (answer (cond b (kept r) dropped)) ≡ b
+kept-by true r = refl
+kept-by false r = refl
+
+dropped-by : (b : Bool) (r : Row) → answer (cond b (kept r) dropped) ≡ answer dropped → b ≡ false
+dropped-by true r e = ap isKept e
+dropped-by false r e = refl
+
+row-by : (b : Bool) (r s : Row) → cond b (kept r) dropped ≡ kept s → r ≡ s
+row-by true r s e = cc
+row-by false r s e = let z : _≡_ {A = ℕ} 0 1 = cc in absurd (omega arith)
+
+-- an index that does not fix the word asks nothing
+unless-fixed : (a b : Bool) → (not a || b) ≡ false → (a ≡ true) × (b ≡ false)
+unless-fixed true b e = (refl, e)
+unless-fixed false b e = absurd (true≢false e)
+
+-- some index fixes the word and has a numerator other than 0
+abbrev Against : List Generator → List ℤ → Word → Type 0
+Against gs ks w = (i : ℕ) × (i < orderOf gs) × (fixes gs w i ≡ true) × (numerator gs ks (digits gs i) ≡ 0 → ⊥)
+
+module _ (gs : List Generator) (ks : List ℤ) (w : Word) where
+  against : keeps gs ks w ≡ false → Against gs ks w
+  unfolding keeps trivial
+  against e =
+      let (i, m, t) = every-false (λ i. not (fixes gs w i) || trivial gs ks i) (below (orderOf gs)) e in
+      let (f, n) = unless-fixed (fixes gs w i) (trivial gs ks i) t in
+      (i, of-member-below (orderOf gs) i m, f, eqb-false (numerator gs ks (digits gs i)) 0 n)
+
+  of-against : Against gs ks w → keeps gs ks w ≡ false
+  unfolding trivial
+  of-against (i, l, f, n) = keeps-broken gs ks w i l f (ne-eqb (numerator gs ks (digits gs i)) 0 n)
+
+  drops : keeps gs ks w ≡ false → decision gs ks w ≡ dropped
+  unfolding decision
+  drops e = rw e
+
+module _ (g : Group) where
+  abbrev gs : List Generator
+  gs = generatorsOf g
+
+  abbrev n : ℕ
+  n = g .sites
+
+  module _ (given : GivenBy g) where
+    valid : Valid n gs
+    valid = given-valid g given
+
+    -- ---- an accepted word
+
+    module _ (bytes : List ℕ) (word : AcceptedWord planeLength n bytes) where
+      abbrev w : Word
+      w = decode planeLength n bytes
+
+      pub index-answer : withIndexOutcome g n bytes ≡ answer (least gs w, indexBack gs w)
+      unfolding withIndexOutcome
+      index-answer = call-answers (wordCallChecks g n bytes) _ (word-passes g (given-accepted g given) bytes word)
+
+      module _ (ks : List ℤ) (modes : length ks ≡ g .generators) (k : ℕ) (room : k ≡ g .generators) where
+        pub sector-answer : sectorOutcome g n bytes ks k ≡ answer (decision gs ks w)
+        sector-answer = sector-decision g (given-accepted g given) bytes word ks k modes room
+
+        pub kept-keeps : isKept (sectorOutcome g n bytes ks k) ≡ keeps gs ks w
+        unfolding decision
+        kept-keeps = ap isKept sector-answer ∙ kept-by (keeps gs ks w) _
+
+        pub dropped-against : (sectorOutcome g n bytes ks k ≡ answer dropped) ↔ Against gs ks w
+        unfolding decision
+        dropped-against = (
+          λ d. against gs ks w (dropped-by (keeps gs ks w) _ (sym sector-answer ∙ d)),
+          λ h. sector-answer ∙ ap answer (drops gs ks w (of-against gs ks w h)),
+        )
+
+      -- what goes with a kept word
+      pub kept-row :
+          (ks : List ℤ) (k : ℕ) (r : Row) → sectorOutcome g n bytes ks k ≡ answer (kept r)
+          → (i : ℕ)
+          × (withIndexOutcome g n bytes ≡ answer (r .word, i))
+          × (r .counter ≡ digits gs i)
+          × (r .size ≡ length (orbit gs w))
+          × (r .size * length (fixing gs w) ≡ orderOf gs)
+      unfolding sectorOutcome decision
+      kept-row ks k r e =
+          let checks = wordCallChecks g n bytes ++ (modeCount g ks ∷ listLength k (g .generators) ∷ []) in
+          let row = row-by (keeps gs ks w) _ r (unless-answer checks (decision gs ks w) (kept r) e .1) in
+          let size : r .size ≡ length (orbit gs w) = ap (λ (x : Row). x .size) (sym row) ∙ Action.orbitSize-orbit valid w (decode-length word) in (
+            indexBack gs w,
+            index-answer ∙ ap (λ (x : Row). answer (x .word, indexBack gs w)) row,
+            ap (λ (x : Row). x .counter) (sym row),
+            size,
+            ap (λ (x : ℕ). x * length (fixing gs w)) size ∙ sym (Action.orbit-stabilizer valid w (decode-length word)),
+          )
+
+    -- ---- counts, with a place of the counter for each generator
+
+    module _ (k : ℕ) (room : k ≡ g .generators) where
+      count-keeps : (bytes : List ℕ) → AcceptedWord planeLength n bytes
+          → count (λ ks. isKept (sectorOutcome g n bytes ks k)) (allModes gs) ≡ keptLists (keeps gs) gs (decode planeLength n bytes)
+      unfolding keptLists
+      count-keeps bytes word =
+          count-cong _ _ (allModes gs) (λ ks m. kept-keeps bytes word ks (modes-length gs ks m ∙ given-length g given) k room)
+
+      pub kept-lists : (bytes : List ℕ) → AcceptedWord planeLength n bytes
+          → count (λ ks. isKept (sectorOutcome g n bytes ks k)) (allModes gs) ≡ length (orbit gs (decode planeLength n bytes))
+      kept-lists bytes word = count-keeps bytes word ∙ Action.keeps-lists valid (decode planeLength n bytes) (decode-length word)
+
+      -- whether the calls answer that bytes are their own least word, and that the modes keep it
+      abbrev keptOwn : List ℤ → List ℕ → Bool
+      keptOwn ks bytes = isOwn bytes (withIndexOutcome g n bytes) && isKept (sectorOutcome g n bytes ks k)
+
+      -- of the bytes of a word
+      module _ (v : Word) (letters : length v ≡ n) where
+        abbrev coded : List ℕ
+        coded = encode planeLength v
+
+        word : AcceptedWord planeLength n coded
+        word = encoded-accepted planeLength v letters (given-sites g given) refl
+
+        decoded : decode planeLength n coded ≡ v
+        decoded = encoded-decode planeLength v letters (given-sites g given) refl
+
+        own : isOwn coded (withIndexOutcome g n coded) ≡ isRepresentative gs v
+        unfolding isRepresentative
+        own =
+            ap (isOwn coded) (index-answer coded word)
+            ∙ rw decoded (sameBytes-encode planeLength n (given-sites g given) (least gs v) v (least-length valid v ∙ letters) letters)
+
+        count-own : count (λ ks. keptOwn ks coded) (allModes gs) ≡ cond (isRepresentative gs v) (keptLists (keeps gs) gs v) 0
+        count-own =
+            count-both (isOwn coded (withIndexOutcome g n coded)) _ (allModes gs)
+            ∙ ap₂ (λ (b : Bool) (x : ℕ). cond b x 0) own (count-keeps coded word ∙ ap (keptLists (keeps gs) gs) decoded)
+
+      pairs-by-words : count (λ p. keptOwn (p .0) (p .1)) (pairs (allModes gs) (acceptedWords n)) ≡ keptPairs (keeps gs) gs n
+      unfolding acceptedWords keptPairs representatives
+      pairs-by-words =
+          count-pairs (λ p. keptOwn (p .0) (p .1)) (allModes gs) (acceptedWords n)
+          ∙ total-map (λ bytes. count (λ ks. keptOwn ks bytes) (allModes gs)) (encode planeLength) (allWords n)
+          ∙ total-cong _ _ (allWords n) (λ v m. count-own v (words-long n v m))
+          ∙ sym (total-select (keptLists (keeps gs) gs) (isRepresentative gs) (allWords n))
+
+      pub kept-pairs : count (λ p. keptOwn (p .0) (p .1)) (pairs (allModes gs) (acceptedWords n)) ≡ 4 ^ n
+      kept-pairs = pairs-by-words ∙ Action.keeps-pairs valid

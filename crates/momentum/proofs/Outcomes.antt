@@ -1,0 +1,122 @@
+-- What the calls come to for an accepted group, with an accepted word where they take one; and a sector call after a refusal.
+-- What carries it: the checks before a call's own are passed, so that its own decide, then the numerators or the traversal.
+use Prim.Native.Nat.{ℕ, _/_}
+use mathlib.Core.Path.{_≡_, refl, _∙_}
+use mathlib.Core.Bool.{true, false}
+use mathlib.Core.List.{List, [], _∷_, _++_}
+use lib.Dec.{ltb, eqb}
+use lib.IntN.{ℤ}
+use lib.ListN.{length}
+use borrow.Author.Tests.{leb-true, le-ltb, eq-eqb, ne-eqb}
+use Rattle.pauli_word.specs.Limits.{maxSites, planeLength, wordLength}
+use Rattle.pauli_word.specs.Outcome.{refused, answer, verdict}
+use Rattle.pauli_word.specs.Word.{Word}
+use Rattle.pauli_word.specs.Bytes.{decode, AcceptedWord}
+use Rattle.action.specs.Permutation.{Generator}
+use Rattle.action.specs.Index.{orderOf, digits, inverse}
+use Rattle.action.specs.Orbit.{least, indexBack, orbitSize}
+use Rattle.action.specs.Sector.{numerator}
+use Rattle.group.specs.declared.Group.{Group}
+use Rattle.group.specs.declared.Refusal.{Refusal}
+use Rattle.group.specs.Value.{generatorsOf, AcceptedGroup}
+use Rattle.group.specs.Calls.{refusalOf, listLength, wordCallChecks}
+use Rattle.group.proofs.CallLaws.{call-refused, front-refused}
+use Rattle.momentum.specs.declared.stabilizer.Traversal.{Traversal}
+use Rattle.momentum.specs.declared.stabilizer.Traversal.the-variants as Traversal
+use Rattle.momentum.specs.Calls.{modeCount, numeratorOutcome, numerators, tableOutcome, kept, dropped, decision, sectorOutcome}
+use Rattle.momentum.specs.Parts.{traversal}
+use Rattle.momentum.proofs.Traversals.{of-dropped, of-kept, kept-index, kept-fixing}
+
+module _ (g : Group) (ok : AcceptedGroup g) where
+  few : ltb maxSites (g .sites) ≡ false
+  few = le-ltb maxSites (g .sites) (leb-true (g .sites) maxSites (ok .few))
+
+  module _ (ks : List ℤ) where
+    -- ---- 18
+
+    pub numerator-modes : (cs : List ℕ) → (length ks ≡ g .generators → ⊥) → numeratorOutcome g ks cs ≡ refused 18 []
+    unfolding numeratorOutcome
+    numerator-modes cs d = simp (few, ok .isOne, ne-eqb (length ks) (g .generators) d)
+
+    pub table-modes : (k : ℕ) → (length ks ≡ g .generators → ⊥) → tableOutcome g ks k ≡ refused 18 []
+    unfolding tableOutcome
+    table-modes k d = simp (few, ok .isOne, ne-eqb (length ks) (g .generators) d)
+
+    module _ (modes : length ks ≡ g .generators) where
+      -- ---- the numerator: 20, or its answer
+
+      module _ (cs : List ℕ) where
+        pub numerator-length : (length cs ≡ g .generators → ⊥) → numeratorOutcome g ks cs ≡ refused 20 []
+        unfolding numeratorOutcome
+        numerator-length d = simp (few, ok .isOne, eq-eqb (length ks) (g .generators) modes, ne-eqb (length cs) (g .generators) d)
+
+        pub numerator-answer : length cs ≡ g .generators → numeratorOutcome g ks cs ≡ answer (numerator (generatorsOf g) ks cs)
+        unfolding numeratorOutcome
+        numerator-answer e = simp (few, ok .isOne, eq-eqb (length ks) (g .generators) modes, eq-eqb (length cs) (g .generators) e)
+
+      -- ---- the table: 21, or its answer
+
+      module _ (k : ℕ) where
+        pub table-length : (k ≡ orderOf (generatorsOf g) → ⊥) → tableOutcome g ks k ≡ refused 21 []
+        unfolding tableOutcome
+        table-length d = simp (few, ok .isOne, eq-eqb (length ks) (g .generators) modes, ne-eqb k (orderOf (generatorsOf g)) d)
+
+        pub table-answer : k ≡ orderOf (generatorsOf g) → tableOutcome g ks k ≡ answer (numerators (generatorsOf g) ks)
+        unfolding tableOutcome
+        table-answer e = simp (few, ok .isOne, eq-eqb (length ks) (g .generators) modes, eq-eqb k (orderOf (generatorsOf g)) e)
+
+-- ---- a sector call after a refusal
+
+pub sector-refused :
+    (g : Group) (n : ℕ) (bytes : List ℕ) (ks : List ℤ) (k : ℕ) (why : Refusal) → verdict (wordCallChecks g n bytes) ≡ refusalOf why
+    → sectorOutcome g n bytes ks k ≡ refusalOf why
+unfolding sectorOutcome
+sector-refused g n bytes ks k why e =
+    let more = modeCount g ks ∷ listLength k (g .generators) ∷ [] in
+    call-refused (wordCallChecks g n bytes ++ more) (answer (decision (generatorsOf g) ks (decode planeLength n bytes))) why
+    (front-refused (wordCallChecks g n bytes) more why e)
+
+-- ---- a sector call for an accepted group and word: 18, 21, or its decision
+
+module _ (g : Group) (ok : AcceptedGroup g) (bytes : List ℕ) (word : AcceptedWord planeLength (g .sites) bytes) (ks : List ℤ) (k : ℕ) where
+  abbrev gs : List Generator
+  gs = generatorsOf g
+
+  abbrev w : Word
+  w = decode planeLength (g .sites) bytes
+
+  long : eqb (length bytes) wordLength ≡ true
+  long = eq-eqb (length bytes) wordLength (word .long)
+
+  same : eqb (g .sites) (g .sites) ≡ true
+  same = eq-eqb (g .sites) (g .sites) refl
+
+  pub sector-modes : (length ks ≡ g .generators → ⊥) → sectorOutcome g (g .sites) bytes ks k ≡ refused 18 []
+  unfolding sectorOutcome
+  sector-modes d = simp (few g ok, ok .isOne, long, same, word .xClear, word .zClear, ne-eqb (length ks) (g .generators) d)
+
+  module _ (modes : length ks ≡ g .generators) where
+    pub sector-length : (k ≡ g .generators → ⊥) → sectorOutcome g (g .sites) bytes ks k ≡ refused 21 []
+    unfolding sectorOutcome
+    sector-length d =
+        simp
+        (few g ok, ok .isOne, long, same, word .xClear, word .zClear, eq-eqb (length ks) (g .generators) modes, ne-eqb k (g .generators) d)
+
+    module _ (room : k ≡ g .generators) where
+      pub sector-decision : sectorOutcome g (g .sites) bytes ks k ≡ answer (decision gs ks w)
+      unfolding sectorOutcome
+      sector-decision =
+          simp
+          (few g ok, ok .isOne, long, same, word .xClear, word .zClear, eq-eqb (length ks) (g .generators) modes, eq-eqb k (g .generators) room)
+
+      pub sector-dropped : traversal gs ks w ≡ Traversal.Dropped → sectorOutcome g (g .sites) bytes ks k ≡ answer dropped
+      unfolding decision
+      sector-dropped e = sector-decision ∙ rw (of-dropped gs ks w e)
+
+      -- by the smallest index that reaches the least word, and the number of fixing indices
+      pub sector-kept :
+          {j m : ℕ} → traversal gs ks w ≡ Traversal.Kept j m
+          → sectorOutcome g (g .sites) bytes ks k
+          ≡ answer (kept (record { word = least gs w; counter = digits gs (inverse gs j); size = orderOf gs / m }))
+      unfolding decision indexBack orbitSize
+      sector-kept e = sector-decision ∙ rw (of-kept gs ks w e, kept-index gs ks w e, kept-fixing gs ks w e)

@@ -1,0 +1,220 @@
+-- One traversal of the indices: what an index does to a word, by the bytes that it reaches, and how many of the indices so far fix the word.
+-- What carries it: the numbers below i + 1 are those below i, and i (`below-next`), so that the test of index i takes what is known of the indices
+-- below i to those below i + 1 (`passed-moves`, `passed-fixes`), or shows that the modes drop the word (`traversal-broken`).
+use Prim.Native.Nat.{ℕ, _+_, _≤_, _<_}
+use mathlib.Core.Path.{_≡_, refl, sym, ap, ap₂, _∙_}
+use mathlib.Core.Logic.{⊎-elim}
+use mathlib.Core.Bool.{Bool, true, false, _||_, not, cond, false≢true}
+use mathlib.Core.List.{List, [], _∷_, _++_}
+use native.Mathlib.Omega.{arith}
+use lib.IntN.{ℤ}
+use lib.ListN.{length}
+use Rattle.pauli_word.specs.Limits.{planeLength}
+use Rattle.pauli_word.specs.declared.Ordering.{Ordering}
+use Rattle.pauli_word.specs.declared.Ordering.the-variants.{Same}
+use Rattle.pauli_word.specs.Word.{Word, same}
+use Rattle.pauli_word.specs.Bytes.{planeBits, decode, encode, AcceptedWord}
+use Rattle.pauli_word.specs.Calls.{orderOfBits}
+use Rattle.pauli_word.proofs.Words.{decode-length, encoded-decode}
+use Rattle.action.specs.Lists.{from, below, Member, count, every}
+use Rattle.action.specs.Permutation.{Generator, Valid}
+use Rattle.action.specs.Index.{orderOf}
+use Rattle.action.specs.Orbit.{reach, least, forward, fixes, fixing}
+use Rattle.action.specs.Sector.{trivial, keeps}
+use Rattle.action.proofs.Lists.{member-below, length-below, of-member-append, every-intro, every-elim, count-select, count-append}
+use Rattle.action.proofs.Reach.{reach-length}
+use Rattle.action.proofs.Stabilizer.{fixing-positive}
+use Rattle.orbit.specs.Tables.{generatorsIn, Tables}
+use Rattle.orbit.proofs.Orbits.{below-next, walk-accepted}
+use Rattle.orbit.proofs.Leads.{same-taken, same-left}
+use Rattle.group.specs.Calls.{noWord}
+use Rattle.momentum.specs.declared.stabilizer.Test.{Test}
+use Rattle.momentum.specs.declared.stabilizer.Test.the-variants as Test
+use Rattle.momentum.specs.declared.stabilizer.Traversal.{Traversal}
+use Rattle.momentum.specs.declared.stabilizer.Traversal.the-variants as Traversal
+use Rattle.momentum.specs.Parts.{testOf, traversal, traversalWord}
+
+-- ---- tests of the numbers below i + 1
+
+count-few : {A : Type 0} (p : A → Bool) (xs : List A) → count p xs ≤ length xs
+unfolding count
+count-few p [] = omega arith
+count-few p (a ∷ xs) = go (p a) (count-few p xs)
+  where
+    go : (b : Bool) → count p xs ≤ length xs → cond b 1 0 + count p xs ≤ length (a ∷ xs)
+    go true h = omega arith
+    go false h = omega arith
+
+module _ (p : ℕ → Bool) (i : ℕ) where
+  count-next : count p (below (i + 1)) ≡ count p (below i) + cond (p i) 1 0
+  unfolding count
+  count-next = ap (count p) (below-next i) ∙ count-append p (below i) (i ∷ []) ∙ omega arith
+
+  every-next : every p (below i) ≡ true → p i ≡ true → every p (below (i + 1)) ≡ true
+  every-next h k = rw (below-next i) (every-intro p (below i ++ (i ∷ [])) each)
+    where
+      last : (j : ℕ) → Member j (i ∷ []) → p j ≡ true
+      last j m = ⊎-elim (λ e. ap p e ∙ k) (λ z. absurd z) m
+
+      each : (j : ℕ) → Member j (below i ++ (i ∷ [])) → p j ≡ true
+      each j m = ⊎-elim (every-elim p (below i) h j) (last j) (of-member-append (below i) (i ∷ []) j m)
+
+-- ---- what an index does to a word
+
+module _ (gs : List Generator) (ks : List ℤ) (w : Word) (i : ℕ) where
+  pub test-moves : fixes gs w i ≡ false → Test.Moves ≡ testOf gs ks w i
+  test-moves f = rw f
+
+  pub test-fixes : fixes gs w i ≡ true → trivial gs ks i ≡ true → Test.Fixes ≡ testOf gs ks w i
+  test-fixes f t = rw (f, t)
+
+  pub test-breaks : fixes gs w i ≡ true → trivial gs ks i ≡ false → Test.Breaks ≡ testOf gs ks w i
+  test-breaks f t = rw (f, t)
+
+  of-moves : testOf gs ks w i ≡ Test.Moves → fixes gs w i ≡ false
+  of-moves = go (fixes gs w i) (trivial gs ks i)
+    where
+      go : (f t : Bool) → cond f (cond t Test.Fixes Test.Breaks) Test.Moves ≡ Test.Moves → f ≡ false
+      go true true e = let z : _≡_ {A = ℕ} 0 1 = cc in absurd (omega arith)
+      go true false e = let z : _≡_ {A = ℕ} 0 1 = cc in absurd (omega arith)
+      go false t e = refl
+
+  of-fixes : testOf gs ks w i ≡ Test.Fixes → (fixes gs w i ≡ true) × (trivial gs ks i ≡ true)
+  of-fixes = go (fixes gs w i) (trivial gs ks i)
+    where
+      go : (f t : Bool) → cond f (cond t Test.Fixes Test.Breaks) Test.Moves ≡ Test.Fixes → (f ≡ true) × (t ≡ true)
+      go true true e = (refl, refl)
+      go true false e = let z : _≡_ {A = ℕ} 0 1 = cc in absurd (omega arith)
+      go false t e = let z : _≡_ {A = ℕ} 0 1 = cc in absurd (omega arith)
+
+  of-breaks : testOf gs ks w i ≡ Test.Breaks → (fixes gs w i ≡ true) × (trivial gs ks i ≡ false)
+  of-breaks = go (fixes gs w i) (trivial gs ks i)
+    where
+      go : (f t : Bool) → cond f (cond t Test.Fixes Test.Breaks) Test.Moves ≡ Test.Breaks → (f ≡ true) × (t ≡ false)
+      go true true e = let z : _≡_ {A = ℕ} 0 1 = cc in absurd (omega arith)
+      go true false e = (refl, refl)
+      go false t e = let z : _≡_ {A = ℕ} 0 1 = cc in absurd (omega arith)
+
+-- comparing the bytes that an index reaches with the word's says whether it fixes the word
+module _ {k n : ℕ} {targets orders : List ℕ} (t : Tables k n targets orders) {word : List ℕ} (ok : AcceptedWord planeLength n word)
+    (i : ℕ) {here : List ℕ} (e : here ≡ encode planeLength (reach (generatorsIn k n targets orders) i (decode planeLength n word)))
+    {o : Ordering} (eo : o ≡ orderOfBits (planeBits here) (planeBits word)) where
+  abbrev gs : List Generator
+  gs = generatorsIn k n targets orders
+
+  abbrev w : Word
+  w = decode planeLength n word
+
+  accepted : AcceptedWord planeLength n here
+  accepted = walk-accepted t w (decode-length ok) i e
+
+  reached : same (decode planeLength n here) w ≡ fixes gs w i
+  unfolding fixes
+  reached = ap (λ (u : Word). same u w) (encoded-decode planeLength (reach gs i w) (reach-length gs i w ∙ decode-length ok) (t .sites) e)
+
+  pub bytes-fixed : o ≡ Same → fixes gs w i ≡ true
+  bytes-fixed h = sym reached ∙ same-taken accepted ok eo h
+
+  pub bytes-moved : (o ≡ Same → ⊥) → fixes gs w i ≡ false
+  bytes-moved h = sym reached ∙ same-left accepted ok eo h
+
+-- ---- the indices so far
+
+-- k of the indices below i fix the word, and each of those has numerator 0
+abbrev pub Passed : List Generator → List ℤ → Word → ℕ → ℕ → Type 0
+Passed gs ks w i k = (k ≡ count (fixes gs w) (below i)) × (every (λ j. not (fixes gs w j) || trivial gs ks j) (below i) ≡ true)
+
+module _ (gs : List Generator) (ks : List ℤ) (w : Word) where
+  pub passed-start : Passed gs ks w 0 0
+  unfolding below from count every
+  passed-start = (refl, refl)
+
+  module _ (i : ℕ) {k : ℕ} (p : Passed gs ks w i k) where
+    pub passed-few : k ≤ i
+    passed-few = omega (arith, p .0, count-few (fixes gs w) (below i), length-below i)
+
+    -- m of the indices below i + 1 fix the word
+    pub passed-moves : {m : ℕ} → testOf gs ks w i ≡ Test.Moves → m ≡ k → Passed gs ks w (i + 1) m
+    passed-moves e same =
+        let f : fixes gs w i ≡ false = of-moves gs ks w i e in (
+          same ∙ p .0 ∙ sym (count-next (fixes gs w) i ∙ rw f (omega arith)),
+          every-next (λ j. not (fixes gs w j) || trivial gs ks j) i (p .1) (rw f),
+        )
+
+    pub passed-fixes : {m : ℕ} → testOf gs ks w i ≡ Test.Fixes → m ≡ k + 1 → Passed gs ks w (i + 1) m
+    passed-fixes e more =
+        let (f, t) = of-fixes gs ks w i e in (
+          more ∙ ap (λ (j : ℕ). j + 1) (p .0) ∙ sym (count-next (fixes gs w) i ∙ rw f),
+          every-next (λ j. not (fixes gs w j) || trivial gs ks j) i (p .1) (rw (f, t)),
+        )
+
+    -- after the last index
+    module _ (e : i ≡ orderOf gs) where
+      all-kept : keeps gs ks w ≡ true
+      unfolding keeps
+      all-kept = rw (← e) (p .1)
+
+      all-fixing : k ≡ length (fixing gs w)
+      unfolding fixing
+      all-fixing = p .0 ∙ count-select (fixes gs w) (below i) ∙ rw e
+
+      pub traversal-kept : {j : ℕ} → j ≡ forward gs w → Traversal.Kept j k ≡ traversal gs ks w
+      traversal-kept h = rw all-kept (ap₂ Traversal.Kept h all-fixing)
+
+      pub word-kept : encode planeLength (least gs w) ≡ traversalWord gs ks w
+      word-kept = rw all-kept
+
+  -- an index that breaks
+  module _ (i : ℕ) (inside : i < orderOf gs) where
+    pub keeps-broken : fixes gs w i ≡ true → trivial gs ks i ≡ false → keeps gs ks w ≡ false
+    unfolding keeps
+    keeps-broken f t = go (keeps gs ks w) refl
+      where
+        go : (b : Bool) → keeps gs ks w ≡ b → b ≡ false
+        go true h =
+            let each : (not (fixes gs w i) || trivial gs ks i) ≡ true = every-elim _ (below (orderOf gs)) h i (member-below (orderOf gs) i inside) in
+            absurd (false≢true (sym t ∙ rw f at each))
+        go false h = refl
+
+    module _ (e : testOf gs ks w i ≡ Test.Breaks) where
+      drops : keeps gs ks w ≡ false
+      drops = let (f, t) = of-breaks gs ks w i e in keeps-broken f t
+
+      pub traversal-broken : Traversal.Dropped ≡ traversal gs ks w
+      traversal-broken = rw drops
+
+      pub word-broken : noWord ≡ traversalWord gs ks w
+      word-broken = rw drops
+
+  -- ---- what the answer of a traversal says
+
+  pub of-dropped : traversal gs ks w ≡ Traversal.Dropped → keeps gs ks w ≡ false
+  of-dropped = go (keeps gs ks w)
+    where
+      go : (b : Bool) → cond b (Traversal.Kept (forward gs w) (length (fixing gs w))) Traversal.Dropped ≡ Traversal.Dropped → b ≡ false
+      go true e = let z : _≡_ {A = ℕ} 0 1 = cc in absurd (omega arith)
+      go false e = refl
+
+  module _ {j k : ℕ} (e : traversal gs ks w ≡ Traversal.Kept j k) where
+    parts : (keeps gs ks w ≡ true) × (j ≡ forward gs w) × (k ≡ length (fixing gs w))
+    parts = go (keeps gs ks w) e
+      where
+        go : (b : Bool) → cond b (Traversal.Kept (forward gs w) (length (fixing gs w))) Traversal.Dropped ≡ Traversal.Kept j k
+            → (b ≡ true) × (j ≡ forward gs w) × (k ≡ length (fixing gs w))
+        go true h = (refl, cc, cc)
+        go false h = let z : _≡_ {A = ℕ} 0 1 = cc in absurd (omega arith)
+
+    pub of-kept : keeps gs ks w ≡ true
+    of-kept = parts .0
+
+    pub kept-index : j ≡ forward gs w
+    kept-index = parts .1
+
+    pub kept-fixing : k ≡ length (fixing gs w)
+    kept-fixing = parts .2
+
+    pub kept-positive : {n : ℕ} → Valid n gs → 0 < k
+    kept-positive v = rw kept-fixing (fixing-positive v w)
+
+    pub kept-word : traversalWord gs ks w ≡ encode planeLength (least gs w)
+    kept-word = rw of-kept

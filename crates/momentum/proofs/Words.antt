@@ -1,0 +1,65 @@
+-- Accepted words as their bytes: the bytes tell the letters, and each accepted word is listed once.
+use Prim.Native.Nat.{ℕ, _*_, _≤_}
+use mathlib.Core.Path.{_≡_, refl, sym, _∙_, ap, ap₂}
+use mathlib.Core.Logic.{_↔_}
+use mathlib.Core.Bool.{true, _&&_, false≢true, and-eq-true-iff}
+use mathlib.Core.List.{List, [], _∷_}
+use lib.Dec.{eqb}
+use lib.ListN.{length}
+use borrow.Author.Tests.{eq-eqb, eqb-true}
+use Rattle.pauli_word.specs.Limits.{maxSites, planeLength}
+use Rattle.pauli_word.specs.Word.{Word, same}
+use Rattle.pauli_word.specs.Bytes.{decode, encode, AcceptedWord}
+use Rattle.pauli_word.proofs.Order.{same-refl, same-eq}
+use Rattle.pauli_word.proofs.Words.{decode-length, encode-decode, encoded-accepted, encoded-decode}
+use Rattle.action.specs.Lists.{Member, NoRepeats}
+use Rattle.action.specs.Count.{allWords}
+use Rattle.action.proofs.Lists.{bool-ext, member-map, of-member-map, noRepeats-map}
+use Rattle.action.proofs.Pairs.{words-all, words-long, words-noRepeats}
+use Rattle.momentum.specs.Counts.{acceptedWords, sameBytes}
+
+sameBytes-refl : (xs : List ℕ) → sameBytes xs xs ≡ true
+unfolding sameBytes
+sameBytes-refl [] = refl
+sameBytes-refl (a ∷ xs) = ap₂ _&&_ (eq-eqb a a refl) (sameBytes-refl xs)
+
+sameBytes-eq : (xs ys : List ℕ) → sameBytes xs ys ≡ true → xs ≡ ys
+unfolding sameBytes
+sameBytes-eq [] [] e = refl
+sameBytes-eq [] (b ∷ ys) e = absurd (false≢true e)
+sameBytes-eq (a ∷ xs) [] e = absurd (false≢true e)
+sameBytes-eq (a ∷ xs) (b ∷ ys) e =
+    let p = and-eq-true-iff (eqb a b) (sameBytes xs ys) .0 e in
+    ap₂ _∷_ (eqb-true a b (p .0)) (sameBytes-eq xs ys (p .1))
+
+-- words of n letters in planes of m bytes
+module _ (m n : ℕ) (few : n ≤ 8 * m) (v w : Word) (longV : length v ≡ n) (longW : length w ≡ n) where
+  pub encode-injective : encode m v ≡ encode m w → v ≡ w
+  encode-injective e = sym (encoded-decode m v longV few refl) ∙ encoded-decode m w longW few e
+
+  pub sameBytes-encode : sameBytes (encode m v) (encode m w) ≡ same v w
+  sameBytes-encode =
+      bool-ext (sameBytes (encode m v) (encode m w)) (same v w)
+      (λ e. ap (same v) (sym (encode-injective (sameBytes-eq (encode m v) (encode m w) e))) ∙ same-refl v)
+      (λ e. ap (λ (u : Word). sameBytes (encode m v) (encode m u)) (sym (same-eq v w e)) ∙ sameBytes-refl (encode m v))
+
+-- the list of the accepted words
+
+module _ (n : ℕ) (few : n ≤ maxSites) where
+  pub accepted-all : (bytes : List ℕ) → Member bytes (acceptedWords n) ↔ AcceptedWord planeLength n bytes
+  unfolding acceptedWords
+  accepted-all bytes = (
+    λ m.
+        let r : (w : Word) × Member w (allWords n) × (bytes ≡ encode planeLength w) = of-member-map (encode planeLength) (allWords n) bytes m in
+        encoded-accepted planeLength (r .0) (words-long n (r .0) (r .1)) few (r .2),
+    λ ok.
+        rw (← encode-decode ok)
+        (member-map (encode planeLength) (allWords n) (decode planeLength n bytes) (words-all n (decode planeLength n bytes) (decode-length ok))),
+  )
+
+  pub accepted-once : NoRepeats (acceptedWords n)
+  unfolding acceptedWords
+  accepted-once =
+      noRepeats-map (encode planeLength) (allWords n)
+      (λ v w h k e. encode-injective planeLength n few v w (words-long n v h) (words-long n w k) e)
+      (words-noRepeats n)

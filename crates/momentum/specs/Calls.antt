@@ -1,0 +1,85 @@
+-- What each call of this crate comes to: its checks in their order, then its answer; and what each answer's cases mean.
+use Prim.Native.Nat.{ℕ}
+use mathlib.Core.Bool.{Bool, not, cond}
+use mathlib.Core.List.{List, [], _∷_, _++_, map}
+use lib.Dec.{eqb}
+use lib.IntN.{ℤ}
+use lib.ListN.{length}
+use Rattle.pauli_word.specs.Limits.{planeLength}
+use Rattle.pauli_word.specs.Outcome.{Outcome, answer, Check, unless}
+use Rattle.pauli_word.specs.Word.{Word}
+use Rattle.pauli_word.specs.Bytes.{decode, encode}
+use Rattle.action.specs.Lists.{below}
+use Rattle.action.specs.Permutation.{Generator}
+use Rattle.action.specs.Index.{orderOf, digits}
+use Rattle.action.specs.Orbit.{least, indexBack, orbitSize}
+use Rattle.action.specs.Sector.{numerator, keeps}
+use Rattle.group.specs.declared.Group.{Group}
+use Rattle.group.specs.Value.{generatorsOf}
+use Rattle.group.specs.Calls.{refusalOf, valueChecks, wordCallChecks, listLength, noWord}
+use Rattle.momentum.specs.declared.Sector.{Sector}
+use Rattle.momentum.specs.declared.Sector.the-variants as Sector
+
+-- 18: mode count is not the generator count
+abbrev pub modeCount : Group → List ℤ → Check
+modeCount g ks = record { number = 18; values = []; broken = not (eqb (length ks) (g .generators)) }
+
+-- 20: counter length is not the generator count
+abbrev pub counterLength : Group → List ℕ → Check
+counterLength g cs = record { number = 20; values = []; broken = not (eqb (length cs) (g .generators)) }
+
+-- ---- character_numerator: 1, 14, 18, 20, then the numerator of the counter
+
+unfoldable pub numeratorOutcome : Group → List ℤ → List ℕ → Outcome ℕ
+numeratorOutcome g ks cs = unless (valueChecks g ++ (modeCount g ks ∷ counterLength g cs ∷ [])) (answer (numerator (generatorsOf g) ks cs))
+
+-- ---- character_table: 1, 14, 18, 21, then the numerator of every index; k is the length of the lent list
+
+unfoldable pub numerators : List Generator → List ℤ → List ℕ
+numerators gs ks = map (λ i. numerator gs ks (digits gs i)) (below (orderOf gs))
+
+unfoldable pub tableOutcome : Group → List ℤ → ℕ → Outcome (List ℕ)
+tableOutcome g ks k =
+    unless (valueChecks g ++ (modeCount g ks ∷ listLength k (orderOf (generatorsOf g)) ∷ [])) (answer (numerators (generatorsOf g) ks))
+
+-- ---- canonicalize_in_sector: 1, 14, 15, 16, 17, 18, 21, then the decision; k is the length of the counter list
+
+-- whether modes keep a word, and what goes with a kept one
+pub data Decision (A : Type 0) : Type 0 where
+  kept : A → Decision A
+  dropped : Decision A
+
+-- what goes with a kept word: the least word of its orbit, the counter of the index that leads from it back to the word, and the orbit size
+pub record Row : Type 0 where
+  pub word : Word
+  pub counter : List ℕ
+  pub size : ℕ
+
+-- dropped exactly if some index that fixes the word has a numerator other than 0
+unfoldable pub decision : List Generator → List ℤ → Word → Decision Row
+decision gs ks w = cond (keeps gs ks w) (kept (record { word = least gs w; counter = digits gs (indexBack gs w); size = orbitSize gs w })) dropped
+
+unfoldable pub sectorOutcome : Group → ℕ → List ℕ → List ℤ → ℕ → Outcome (Decision Row)
+sectorOutcome g n bytes ks k =
+    unless (wordCallChecks g n bytes ++ (modeCount g ks ∷ listLength k (g .generators) ∷ []))
+    (answer (decision (generatorsOf g) ks (decode planeLength n bytes)))
+
+-- `Kept` carries the orbit size
+abbrev pub outcomeOfSector : Sector → Outcome (Decision ℕ)
+outcomeOfSector (Sector.Kept size) = answer (kept size)
+outcomeOfSector Sector.Dropped = answer dropped
+outcomeOfSector (Sector.Refused why) = refusalOf why
+
+abbrev pub sizeOf : Decision Row → Decision ℕ
+sizeOf (kept r) = kept (r .size)
+sizeOf dropped = dropped
+
+-- the word beside the answer: zeros beside a dropped one
+abbrev pub rowWord : Decision Row → List ℕ
+rowWord (kept r) = encode planeLength (r .word)
+rowWord dropped = noWord
+
+-- the counter list afterwards: as it was where the word is dropped
+abbrev pub rowCounter : List ℕ → Decision Row → List ℕ
+rowCounter list (kept r) = r .counter
+rowCounter list dropped = list

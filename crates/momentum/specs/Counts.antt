@@ -1,0 +1,44 @@
+-- What demand 3 counts, at what a caller hands over: mode lists, and accepted words as their bytes.
+use Prim.Native.Nat.{ℕ}
+use mathlib.Core.Bool.{Bool, true, false, _&&_}
+use mathlib.Core.List.{List, [], _∷_, _++_, map}
+use lib.Dec.{eqb}
+use lib.IntN.{ℤ}
+use Rattle.pauli_word.specs.Limits.{planeLength}
+use Rattle.pauli_word.specs.Outcome.{Outcome, refused, answer}
+use Rattle.pauli_word.specs.Word.{Word}
+use Rattle.pauli_word.specs.Bytes.{encode}
+use Rattle.action.specs.Lists.{count}
+use Rattle.action.specs.Count.{allWords, allModes}
+use Rattle.group.specs.declared.Group.{Group}
+use Rattle.group.specs.Value.{generatorsOf}
+use Rattle.group.specs.Calls.{withIndexOutcome, wordOf}
+use Rattle.momentum.specs.Calls.{Decision, kept, dropped, Row, sectorOutcome}
+
+-- the accepted words of n sites, as their bytes
+unfoldable pub acceptedWords : ℕ → List (List ℕ)
+unfolding allWords
+acceptedWords n = map (encode planeLength) (allWords n)
+
+-- whether two lists of bytes are the same
+unfoldable pub sameBytes : List ℕ → List ℕ → Bool
+sameBytes [] [] = true
+sameBytes [] (b ∷ bs) = false
+sameBytes (a ∷ xs) [] = false
+sameBytes (a ∷ xs) (b ∷ bs) = eqb a b && sameBytes xs bs
+
+-- whether a call of canonicalize_with_index answers with the word that it was handed
+abbrev pub isOwn : List ℕ → Outcome (Word × ℕ) → Bool
+isOwn bytes (refused k vs) = false
+isOwn bytes (answer p) = sameBytes (wordOf p) bytes
+
+-- whether a call of canonicalize_in_sector answers that the word is kept
+abbrev pub isKept : Outcome (Decision Row) → Bool
+isKept (refused k vs) = false
+isKept (answer (kept r)) = true
+isKept (answer dropped) = false
+
+-- each member of a list with each member of another
+unfoldable pub pairs : {A B : Type 0} → List A → List B → List (A × B)
+pairs [] ys = []
+pairs (x ∷ xs) ys = map (λ y. (x, y)) ys ++ pairs xs ys

@@ -1,0 +1,4 @@
+-- What the contracts of this crate say, in the order to read it.
+pub mod Calls
+pub mod Counts
+pub mod Parts

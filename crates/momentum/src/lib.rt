@@ -1,0 +1,77 @@
+// Momentum sectors of a group of site permutations: the phase numerators of a mode list, and which words it keeps. A mode is an integer momentum
+// along a generator; its wavenumber is 2 pi mode / order. A character's phase is numerator / phase modulus of a turn.
+//
+// No call here asks anything of its caller: bad input is refused by number, lent lists are then as they were, and what comes back beside
+// a refusal passes for nothing.
+pub mod inner;
+mod phase;
+mod stabilizer;
+
+ghost use mathlib.Core.Path.{_≡_};
+ghost use lib.ListN.{length};
+ghost use Rattle.pauli_word.specs.Outcome.{onAnswer, orElse};
+ghost use Rattle.group.specs.Calls.{done, itself, noWord, outcomeOfNumber, outcomeOfDone};
+ghost use Rattle.momentum.specs.Calls.{numeratorOutcome, tableOutcome, sectorOutcome, outcomeOfSector, sizeOf, rowWord, rowCounter};
+use group::Done;
+use group::Group;
+use group::Number;
+use group::Refusal;
+use group::value::Pass;
+use pauli_word::WORD_BYTES;
+
+// What modes make of a word.
+pub enum Sector {
+    // They keep it; its orbit has this many different words.
+    Kept(usize),
+    // Some index fixes the word with a numerator other than 0.
+    Dropped,
+    Refused(Refusal),
+}
+
+// The least word beside a kept answer; zeros beside another.
+pub struct InSector {
+    pub answer: Sector,
+    pub word: [u8; WORD_BYTES],
+}
+
+// The numerator of a counter: the sum of (k c mod o) (M / o) over the generators, mod M, with M the phase modulus.
+// Modes and digits may be any; they are reduced.
+pub fn character_numerator(group: Group, modes: &[i32], counter: &[u32]) -> Number
+    ensures answer { λ r. ⌜ outcomeOfNumber r ≡ numeratorOutcome group (now (modes .entry)) (now (counter .entry)) ⌝ }
+{
+    match group::value::value_checked(group) {
+        Pass::Refused(why) => Number::Refused(why),
+        Pass::Accepted => inner::numerator_of(group, modes, counter),
+    }
+}
+
+// The numerators of all indices, generator 0 fastest, into a list with an entry for each.
+pub fn character_table(group: Group, modes: &[i32], list: &mut [usize]) -> Done
+    ensures answer { λ r. ⌜ outcomeOfDone r ≡ onAnswer done (tableOutcome group (now (modes .entry)) (length (now (list .entry)))) ⌝ }
+    ensures list { λ _. ⌜ now (list .exit) ≡ orElse itself (now (list .entry)) (tableOutcome group (now (modes .entry)) (length (now (list .entry)))) ⌝ }
+{
+    match group::value::value_checked(group) {
+        Pass::Refused(why) => Done::Refused(why),
+        Pass::Accepted => inner::table_of(group, modes, list),
+    }
+}
+
+// Whether modes keep a word: dropped exactly if some index that fixes it has a numerator other than 0. A kept word comes with the least word of
+// its orbit, the counter of the index that leads from there back to the word, into a list with a place for each generator, and the orbit size.
+// One traversal of the group, up to the first index that drops the word.
+pub fn canonicalize_in_sector(
+    group: Group,
+    n: usize,
+    word: &[u8],
+    modes: &[i32],
+    counter: &mut [u32],
+) -> InSector
+    ensures answer { λ r. ⌜ outcomeOfSector (r .answer) ≡ onAnswer sizeOf (sectorOutcome group n (now (word .entry)) (now (modes .entry)) (length (now (counter .entry)))) ⌝ }
+    ensures word { λ r. ⌜ r .word ≡ orElse rowWord noWord (sectorOutcome group n (now (word .entry)) (now (modes .entry)) (length (now (counter .entry)))) ⌝ }
+    ensures counter { λ _. ⌜ now (counter .exit) ≡ orElse (rowCounter (now (counter .entry))) (now (counter .entry)) (sectorOutcome group n (now (word .entry)) (now (modes .entry)) (length (now (counter .entry)))) ⌝ }
+{
+    match group::value::word_call_checked(group, n, word) {
+        Pass::Refused(why) => inner::no_row(Sector::Refused(why)),
+        Pass::Accepted => inner::sector_of(group, word, modes, counter),
+    }
+}

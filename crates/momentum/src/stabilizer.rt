@@ -1,0 +1,123 @@
+// The traversal behind a sector's decision. Whoever calls a function here owes its `requires`.
+ghost use mathlib.Core.Path.{_≡_};
+ghost use Prim.Native.Nat.{_<_};
+ghost use lib.ListN.{length};
+ghost use Rattle.pauli_word.specs.Limits.{planeLength};
+ghost use Rattle.pauli_word.specs.Bytes.{decode, encode, AcceptedWord};
+ghost use Rattle.action.specs.Index.{orderOf};
+ghost use Rattle.action.specs.Orbit.{reach};
+ghost use Rattle.action.specs.Sector.{modulus as modulusOf};
+ghost use Rattle.orbit.specs.Tables.{generatorsIn, Tables};
+ghost use Rattle.momentum.specs.Parts.{testOf, traversal, traversalWord};
+use crate::phase;
+use pauli_word::Ordering;
+use pauli_word::WORD_BYTES;
+
+// What an index does to a word under modes.
+pub enum Test {
+    // It reaches another word.
+    Moves,
+    // It fixes the word, with numerator 0.
+    Fixes,
+    // It fixes the word, with another numerator: the modes drop the word.
+    Breaks,
+}
+
+// What one traversal of the group comes to.
+pub enum Traversal {
+    // The smallest index that reaches the least word, and the number of fixing indices.
+    Kept(usize, usize),
+    Dropped,
+}
+
+// The least word beside the traversal; zeros where the word is dropped.
+pub struct Traversed {
+    pub answer: Traversal,
+    pub word: [u8; WORD_BYTES],
+}
+
+// What an index does to a word, by the word that it reaches.
+pub fn tested(
+    targets: &[u32],
+    orders: &[u32],
+    generators: usize,
+    sites: usize,
+    modulus: usize,
+    modes: &[i32],
+    index: usize,
+    here: &[u8],
+    word: &[u8],
+) -> Test
+    requires { ⌜ Tables generators sites (now targets) (now orders) ⌝ }
+    requires { ⌜ modulus ≡ modulusOf (generatorsIn generators sites (now targets) (now orders)) ⌝ }
+    requires { ⌜ length (now modes) ≡ generators ⌝ }
+    requires { ⌜ AcceptedWord planeLength sites (now word) ⌝ }
+    requires { ⌜ now here ≡ encode planeLength (reach (generatorsIn generators sites (now targets) (now orders)) index (decode planeLength sites (now word))) ⌝ }
+    ensures { λ r. ⌜ r ≡ testOf (generatorsIn generators sites (now (targets .entry)) (now (orders .entry))) (now (modes .entry)) (decode planeLength sites (now (word .entry))) index ⌝ }
+{
+    let Ordering::Same = pauli_word::compare(here, word) else {
+        return Test::Moves;
+    };
+    if phase::trivial(targets, orders, generators, sites, modulus, modes, index) {
+        Test::Fixes
+    } else {
+        Test::Breaks
+    }
+}
+
+// One traversal of the group: it stops at the first fixing index with a numerator other than 0, and else gives the least word.
+pub fn canonicalize_with_stabilizer(
+    targets: &[u32],
+    orders: &[u32],
+    generators: usize,
+    sites: usize,
+    order: usize,
+    modulus: usize,
+    modes: &[i32],
+    word: &[u8],
+) -> Traversed
+    requires { ⌜ Tables generators sites (now targets) (now orders) ⌝ }
+    requires { ⌜ order ≡ orderOf (generatorsIn generators sites (now targets) (now orders)) ⌝ }
+    requires { ⌜ modulus ≡ modulusOf (generatorsIn generators sites (now targets) (now orders)) ⌝ }
+    requires { ⌜ length (now modes) ≡ generators ⌝ }
+    requires { ⌜ AcceptedWord planeLength sites (now word) ⌝ }
+    ensures answer { λ r. ⌜ r .answer ≡ traversal (generatorsIn generators sites (now (targets .entry)) (now (orders .entry))) (now (modes .entry)) (decode planeLength sites (now (word .entry))) ⌝ }
+    ensures word { λ r. ⌜ r .word ≡ traversalWord (generatorsIn generators sites (now (targets .entry)) (now (orders .entry))) (now (modes .entry)) (decode planeLength sites (now (word .entry))) ⌝ }
+{
+    let mut here = [0u8; WORD_BYTES];
+    orbit::walk::copy(word, &mut here);
+    let mut best = [0u8; WORD_BYTES];
+    orbit::walk::copy(word, &mut best);
+    let mut index = 0;
+    let mut fixing = 0;
+    let mut i = 0;
+    while i < order {
+        match tested(
+            targets,
+            orders,
+            generators,
+            sites,
+            modulus,
+            modes,
+            i,
+            &here,
+            word,
+        ) {
+            Test::Breaks => {
+                return Traversed {
+                    answer: Traversal::Dropped,
+                    word: [0u8; WORD_BYTES],
+                };
+            }
+            Test::Fixes => fixing += 1,
+            Test::Moves => {}
+        }
+        index = orbit::walk::take_lead(&here, sites, i, &mut best, index);
+        orbit::walk::advance(targets, orders, generators, sites, i, &mut here);
+        i += 1;
+    }
+    Traversed {
+        answer: Traversal::Kept(index, fixing),
+        word: best,
+    }
+}
