@@ -1,9 +1,10 @@
 -- What the calls come to for an accepted group, with an accepted word where they take one; and a sector call after a refusal.
 -- What carries it: the checks before a call's own are passed, so that its own decide, then the numerators or the traversal.
-use Prim.Native.Nat.{ℕ, _/_}
+use Prim.Native.Nat.{ℕ}
 use mathlib.Core.Path.{_≡_, refl, _∙_}
-use mathlib.Core.Bool.{true, false}
+use mathlib.Core.Bool.{Bool, true, false, cond}
 use mathlib.Core.List.{List, [], _∷_, _++_}
+use native.Mathlib.Omega.{arith}
 use lib.Dec.{ltb, eqb}
 use lib.IntN.{ℤ}
 use lib.ListN.{length}
@@ -11,21 +12,20 @@ use borrow.Author.Tests.{leb-true, le-ltb, eq-eqb, ne-eqb}
 use Rattle.pauli_word.specs.Limits.{maxSites, planeLength, wordLength}
 use Rattle.pauli_word.specs.Outcome.{refused, answer, verdict}
 use Rattle.pauli_word.specs.Word.{Word}
-use Rattle.pauli_word.specs.Bytes.{decode, AcceptedWord}
+use Rattle.pauli_word.specs.Bytes.{decode, encode, AcceptedWord}
 use Rattle.action.specs.Permutation.{Generator}
-use Rattle.action.specs.Index.{orderOf, digits, inverse}
+use Rattle.action.specs.Index.{orderOf, digits}
 use Rattle.action.specs.Orbit.{least, indexBack, orbitSize}
-use Rattle.action.specs.Sector.{numerator}
+use Rattle.action.specs.Sector.{numerator, keeps}
 use Rattle.group.specs.declared.Group.{Group}
 use Rattle.group.specs.declared.Refusal.{Refusal}
 use Rattle.group.specs.Value.{generatorsOf, AcceptedGroup}
 use Rattle.group.specs.Calls.{refusalOf, listLength, wordCallChecks}
 use Rattle.group.proofs.CallLaws.{call-refused, front-refused}
-use Rattle.momentum.specs.declared.stabilizer.Traversal.{Traversal}
-use Rattle.momentum.specs.declared.stabilizer.Traversal.the-variants as Traversal
-use Rattle.momentum.specs.Calls.{modeCount, numeratorOutcome, numerators, tableOutcome, kept, dropped, decision, sectorOutcome}
-use Rattle.momentum.specs.Parts.{traversal}
-use Rattle.momentum.proofs.Traversals.{of-dropped, of-kept, kept-index, kept-fixing}
+use Rattle.momentum.specs.declared.inner.Placement.{Placement}
+use Rattle.momentum.specs.declared.inner.Placement.the-variants as Placement
+use Rattle.momentum.specs.Calls.{modeCount, numeratorOutcome, numerators, tableOutcome, Decision, kept, dropped, Row, decision, sectorOutcome}
+use Rattle.momentum.specs.Parts.{placement, placementWord}
 
 module _ (g : Group) (ok : AcceptedGroup g) where
   few : ltb maxSites (g .sites) ≡ false
@@ -109,14 +109,28 @@ module _ (g : Group) (ok : AcceptedGroup g) (bytes : List ℕ) (word : AcceptedW
           simp
           (few g ok, ok .isOne, long, same, word .xClear, word .zClear, eq-eqb (length ks) (g .generators) modes, eq-eqb k (g .generators) room)
 
-      pub sector-dropped : traversal gs ks w ≡ Traversal.Dropped → sectorOutcome g (g .sites) bytes ks k ≡ answer dropped
+      -- by where the word stands
+      pub sector-dropped : placement gs ks w ≡ Placement.Dropped → sectorOutcome g (g .sites) bytes ks k ≡ answer dropped
       unfolding decision
-      sector-dropped e = sector-decision ∙ rw (of-dropped gs ks w e)
+      sector-dropped e = sector-decision ∙ go (keeps gs ks w) e
+        where
+          go : (b : Bool) → cond b (Placement.Kept (indexBack gs w) (orbitSize gs w)) Placement.Dropped ≡ Placement.Dropped
+              → answer (cond {A = Decision Row} b (kept (record { word = least gs w; counter = digits gs (indexBack gs w); size = orbitSize gs w })) dropped) ≡ answer dropped
+          go true h = let z : _≡_ {A = ℕ} 0 1 = cc in absurd (omega arith)
+          go false h = refl
 
-      -- by the smallest index that reaches the least word, and the number of fixing indices
       pub sector-kept :
-          {j m : ℕ} → traversal gs ks w ≡ Traversal.Kept j m
-          → sectorOutcome g (g .sites) bytes ks k
-          ≡ answer (kept (record { word = least gs w; counter = digits gs (inverse gs j); size = orderOf gs / m }))
-      unfolding decision indexBack orbitSize
-      sector-kept e = sector-decision ∙ rw (of-kept gs ks w e, kept-index gs ks w e, kept-fixing gs ks w e)
+          {i size : ℕ} → placement gs ks w ≡ Placement.Kept i size
+          → (sectorOutcome g (g .sites) bytes ks k ≡ answer (kept (record { word = least gs w; counter = digits gs i; size = size })))
+          × (placementWord gs ks w ≡ encode planeLength (least gs w))
+      unfolding decision
+      sector-kept {i} {size} e = go (keeps gs ks w) refl e
+        where
+          go : (b : Bool) → keeps gs ks w ≡ b → cond b (Placement.Kept (indexBack gs w) (orbitSize gs w)) Placement.Dropped ≡ Placement.Kept i size
+              → (sectorOutcome g (g .sites) bytes ks k ≡ answer (kept (record { word = least gs w; counter = digits gs i; size = size })))
+              × (placementWord gs ks w ≡ encode planeLength (least gs w))
+          go true t h =
+              let index : indexBack gs w ≡ i = cc in
+              let same : orbitSize gs w ≡ size = cc in
+              (sector-decision ∙ rw (t, index, same), rw t)
+          go false t h = let z : _≡_ {A = ℕ} 0 1 = cc in absurd (omega arith)

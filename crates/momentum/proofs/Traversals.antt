@@ -1,7 +1,7 @@
 -- One traversal of the indices: what an index does to a word, by the bytes that it reaches, and how many of the indices so far fix the word.
 -- What carries it: the numbers below i + 1 are those below i, and i (`below-next`), so that the test of index i takes what is known of the indices
 -- below i to those below i + 1 (`passed-moves`, `passed-fixes`), or shows that the modes drop the word (`traversal-broken`).
-use Prim.Native.Nat.{ℕ, _+_, _≤_, _<_}
+use Prim.Native.Nat.{ℕ, _+_, _≤_, _<_, _/_}
 use mathlib.Core.Path.{_≡_, refl, sym, ap, ap₂, _∙_}
 use mathlib.Core.Logic.{⊎-elim}
 use mathlib.Core.Bool.{Bool, true, false, _||_, not, cond, false≢true}
@@ -18,8 +18,8 @@ use Rattle.pauli_word.specs.Calls.{orderOfBits}
 use Rattle.pauli_word.proofs.Words.{decode-length, encoded-decode}
 use Rattle.action.specs.Lists.{from, below, Member, count, every}
 use Rattle.action.specs.Permutation.{Generator, Valid}
-use Rattle.action.specs.Index.{orderOf}
-use Rattle.action.specs.Orbit.{reach, least, forward, fixes, fixing}
+use Rattle.action.specs.Index.{orderOf, inverse}
+use Rattle.action.specs.Orbit.{reach, least, forward, fixes, fixing, indexBack, orbitSize}
 use Rattle.action.specs.Sector.{trivial, keeps}
 use Rattle.action.proofs.Lists.{member-below, length-below, of-member-append, every-intro, every-elim, count-select, count-append}
 use Rattle.action.proofs.Reach.{reach-length}
@@ -28,11 +28,13 @@ use Rattle.orbit.specs.Tables.{generatorsIn, Tables}
 use Rattle.orbit.proofs.Orbits.{below-next, walk-accepted}
 use Rattle.orbit.proofs.Leads.{same-taken, same-left}
 use Rattle.group.specs.Calls.{noWord}
+use Rattle.momentum.specs.declared.inner.Placement.{Placement}
+use Rattle.momentum.specs.declared.inner.Placement.the-variants as Placement
 use Rattle.momentum.specs.declared.stabilizer.Test.{Test}
 use Rattle.momentum.specs.declared.stabilizer.Test.the-variants as Test
 use Rattle.momentum.specs.declared.stabilizer.Traversal.{Traversal}
 use Rattle.momentum.specs.declared.stabilizer.Traversal.the-variants as Traversal
-use Rattle.momentum.specs.Parts.{testOf, traversal, traversalWord}
+use Rattle.momentum.specs.Parts.{testOf, traversal, placement, placementWord}
 
 -- ---- tests of the numbers below i + 1
 
@@ -161,7 +163,7 @@ module _ (gs : List Generator) (ks : List ℤ) (w : Word) where
       pub traversal-kept : {j : ℕ} → j ≡ forward gs w → Traversal.Kept j k ≡ traversal gs ks w
       traversal-kept h = rw all-kept (ap₂ Traversal.Kept h all-fixing)
 
-      pub word-kept : encode planeLength (least gs w) ≡ traversalWord gs ks w
+      pub word-kept : encode planeLength (least gs w) ≡ placementWord gs ks w
       word-kept = rw all-kept
 
   -- an index that breaks
@@ -183,38 +185,38 @@ module _ (gs : List Generator) (ks : List ℤ) (w : Word) where
       pub traversal-broken : Traversal.Dropped ≡ traversal gs ks w
       traversal-broken = rw drops
 
-      pub word-broken : noWord ≡ traversalWord gs ks w
+      pub word-broken : noWord ≡ placementWord gs ks w
       word-broken = rw drops
 
   -- ---- what the answer of a traversal says
 
-  pub of-dropped : traversal gs ks w ≡ Traversal.Dropped → keeps gs ks w ≡ false
-  of-dropped = go (keeps gs ks w)
-    where
-      go : (b : Bool) → cond b (Traversal.Kept (forward gs w) (length (fixing gs w))) Traversal.Dropped ≡ Traversal.Dropped → b ≡ false
-      go true e = let z : _≡_ {A = ℕ} 0 1 = cc in absurd (omega arith)
-      go false e = refl
+  module _ (e : traversal gs ks w ≡ Traversal.Dropped) where
+    of-dropped : keeps gs ks w ≡ false
+    of-dropped = go (keeps gs ks w) e
+      where
+        go : (b : Bool) → cond b (Traversal.Kept (forward gs w) (length (fixing gs w))) Traversal.Dropped ≡ Traversal.Dropped → b ≡ false
+        go true h = let z : _≡_ {A = ℕ} 0 1 = cc in absurd (omega arith)
+        go false h = refl
+
+    pub dropped-placement : Placement.Dropped ≡ placement gs ks w
+    dropped-placement = rw of-dropped
+
+    pub dropped-word : noWord ≡ placementWord gs ks w
+    dropped-word = rw of-dropped
 
   module _ {j k : ℕ} (e : traversal gs ks w ≡ Traversal.Kept j k) where
-    parts : (keeps gs ks w ≡ true) × (j ≡ forward gs w) × (k ≡ length (fixing gs w))
-    parts = go (keeps gs ks w) e
+    of-kept : (keeps gs ks w ≡ true) × (j ≡ forward gs w) × (k ≡ length (fixing gs w))
+    of-kept = go (keeps gs ks w) e
       where
         go : (b : Bool) → cond b (Traversal.Kept (forward gs w) (length (fixing gs w))) Traversal.Dropped ≡ Traversal.Kept j k
             → (b ≡ true) × (j ≡ forward gs w) × (k ≡ length (fixing gs w))
         go true h = (refl, cc, cc)
         go false h = let z : _≡_ {A = ℕ} 0 1 = cc in absurd (omega arith)
 
-    pub of-kept : keeps gs ks w ≡ true
-    of-kept = parts .0
-
-    pub kept-index : j ≡ forward gs w
-    kept-index = parts .1
-
-    pub kept-fixing : k ≡ length (fixing gs w)
-    kept-fixing = parts .2
-
     pub kept-positive : {n : ℕ} → Valid n gs → 0 < k
-    kept-positive v = rw kept-fixing (fixing-positive v w)
+    kept-positive v = rw (of-kept .2) (fixing-positive v w)
 
-    pub kept-word : traversalWord gs ks w ≡ encode planeLength (least gs w)
-    kept-word = rw of-kept
+    -- by the inverse of the index, and by the order
+    pub kept-placement : {i o : ℕ} → i ≡ inverse gs j → o ≡ orderOf gs → Placement.Kept i (o / k) ≡ placement gs ks w
+    unfolding indexBack orbitSize
+    kept-placement a b = rw (of-kept .0, a, b, of-kept .1, of-kept .2)

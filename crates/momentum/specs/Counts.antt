@@ -3,17 +3,13 @@ use Prim.Native.Nat.{ℕ}
 use mathlib.Core.Bool.{Bool, true, false, _&&_}
 use mathlib.Core.List.{List, [], _∷_, _++_, map}
 use lib.Dec.{eqb}
-use lib.IntN.{ℤ}
 use Rattle.pauli_word.specs.Limits.{planeLength}
 use Rattle.pauli_word.specs.Outcome.{Outcome, refused, answer}
 use Rattle.pauli_word.specs.Word.{Word}
 use Rattle.pauli_word.specs.Bytes.{encode}
-use Rattle.action.specs.Lists.{count}
-use Rattle.action.specs.Count.{allWords, allModes}
-use Rattle.group.specs.declared.Group.{Group}
-use Rattle.group.specs.Value.{generatorsOf}
-use Rattle.group.specs.Calls.{withIndexOutcome, wordOf}
-use Rattle.momentum.specs.Calls.{Decision, kept, dropped, Row, sectorOutcome}
+use Rattle.action.specs.Count.{allWords}
+use Rattle.group.specs.Calls.{wordOf}
+use Rattle.momentum.specs.Calls.{Decision, kept, dropped, Row}
 
 -- the accepted words of n sites, as their bytes
 unfoldable pub acceptedWords : ℕ → List (List ℕ)

@@ -3,10 +3,11 @@ ghost use mathlib.Core.Path.{_≡_};
 ghost use lib.ListN.{length};
 ghost use Rattle.pauli_word.specs.Limits.{planeLength};
 ghost use Rattle.pauli_word.specs.Outcome.{onAnswer, orElse};
-ghost use Rattle.pauli_word.specs.Bytes.{AcceptedWord};
-ghost use Rattle.group.specs.Value.{AcceptedGroup};
+ghost use Rattle.pauli_word.specs.Bytes.{decode, AcceptedWord};
+ghost use Rattle.group.specs.Value.{generatorsOf, AcceptedGroup};
 ghost use Rattle.group.specs.Calls.{done, itself, noWord, outcomeOfNumber, outcomeOfDone};
 ghost use Rattle.momentum.specs.Calls.{numeratorOutcome, tableOutcome, sectorOutcome, outcomeOfSector, sizeOf, rowWord, rowCounter};
+ghost use Rattle.momentum.specs.Parts.{placement, placementWord};
 use crate::InSector;
 use crate::Sector;
 use crate::phase;
@@ -106,6 +107,49 @@ pub fn decided(group: Group, word: &[u8], modes: &[i32], counter: &mut [u32]) ->
     ensures word { λ r. ⌜ r .word ≡ orElse rowWord noWord (sectorOutcome group (group .sites) (now (word .entry)) (now (modes .entry)) (length (now (counter .entry)))) ⌝ }
     ensures counter { λ _. ⌜ now (counter .exit) ≡ orElse (rowCounter (now (counter .entry))) (now (counter .entry)) (sectorOutcome group (group .sites) (now (word .entry)) (now (modes .entry)) (length (now (counter .entry)))) ⌝ }
 {
+    let found = placement_of(group, word, modes);
+    let answer = found.answer;
+    let Placement::Kept(index, size) = answer else {
+        return no_row(Sector::Dropped);
+    };
+    let targets = group.targets;
+    let orders = group.orders;
+    orbit::index::fill_counter(
+        &targets,
+        &orders,
+        group.generators,
+        group.sites,
+        index,
+        counter,
+    );
+    let least = found.word;
+    InSector {
+        answer: Sector::Kept(size),
+        word: least,
+    }
+}
+
+// Where a word stands in its orbit, if modes keep it.
+pub enum Placement {
+    // The index that leads from the least word to the word, and the orbit size.
+    Kept(usize, usize),
+    Dropped,
+}
+
+// The least word beside it; zeros where the word is dropped.
+pub struct Placed {
+    pub answer: Placement,
+    pub word: [u8; WORD_BYTES],
+}
+
+// The decision with the index in the place of its counter.
+pub fn placement_of(group: Group, word: &[u8], modes: &[i32]) -> Placed
+    requires { ⌜ AcceptedGroup group ⌝ }
+    requires { ⌜ AcceptedWord planeLength (group .sites) (now word) ⌝ }
+    requires { ⌜ length (now modes) ≡ group .generators ⌝ }
+    ensures answer { λ r. ⌜ r .answer ≡ placement (generatorsOf group) (now (modes .entry)) (decode planeLength (group .sites) (now (word .entry))) ⌝ }
+    ensures word { λ r. ⌜ r .word ≡ placementWord (generatorsOf group) (now (modes .entry)) (decode planeLength (group .sites) (now (word .entry))) ⌝ }
+{
     let order = group::inner::order_of(group);
     let modulus = group::inner::modulus_of(group);
     let generators = group.generators;
@@ -124,13 +168,15 @@ pub fn decided(group: Group, word: &[u8], modes: &[i32], counter: &mut [u32]) ->
     );
     let answer = found.answer;
     let Traversal::Kept(forward, fixing) = answer else {
-        return no_row(Sector::Dropped);
+        return Placed {
+            answer: Placement::Dropped,
+            word: [0u8; WORD_BYTES],
+        };
     };
     let index = orbit::index::invert(&targets, &orders, generators, sites, forward);
-    orbit::index::fill_counter(&targets, &orders, generators, sites, index, counter);
     let least = found.word;
-    InSector {
-        answer: Sector::Kept(order / fixing),
+    Placed {
+        answer: Placement::Kept(index, order / fixing),
         word: least,
     }
 }

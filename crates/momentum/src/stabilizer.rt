@@ -8,7 +8,8 @@ ghost use Rattle.action.specs.Index.{orderOf};
 ghost use Rattle.action.specs.Orbit.{reach};
 ghost use Rattle.action.specs.Sector.{modulus as modulusOf};
 ghost use Rattle.orbit.specs.Tables.{generatorsIn, Tables};
-ghost use Rattle.momentum.specs.Parts.{testOf, traversal, traversalWord};
+ghost use Rattle.group.specs.Calls.{noWord};
+ghost use Rattle.momentum.specs.Parts.{testOf, traversal, placementWord};
 use crate::phase;
 use pauli_word::Ordering;
 use pauli_word::WORD_BYTES;
@@ -65,6 +66,16 @@ pub fn tested(
     }
 }
 
+// A traversal that has met an index that drops the word.
+pub fn dropped() -> Traversed
+    ensures { λ r. ⌜ (r .answer ≡ Traversal.Dropped) × (r .word ≡ noWord) ⌝ }
+{
+    Traversed {
+        answer: Traversal::Dropped,
+        word: [0u8; WORD_BYTES],
+    }
+}
+
 // One traversal of the group: it stops at the first fixing index with a numerator other than 0, and else gives the least word.
 pub fn canonicalize_with_stabilizer(
     targets: &[u32],
@@ -82,7 +93,7 @@ pub fn canonicalize_with_stabilizer(
     requires { ⌜ length (now modes) ≡ generators ⌝ }
     requires { ⌜ AcceptedWord planeLength sites (now word) ⌝ }
     ensures answer { λ r. ⌜ r .answer ≡ traversal (generatorsIn generators sites (now (targets .entry)) (now (orders .entry))) (now (modes .entry)) (decode planeLength sites (now (word .entry))) ⌝ }
-    ensures word { λ r. ⌜ r .word ≡ traversalWord (generatorsIn generators sites (now (targets .entry)) (now (orders .entry))) (now (modes .entry)) (decode planeLength sites (now (word .entry))) ⌝ }
+    ensures word { λ r. ⌜ r .word ≡ placementWord (generatorsIn generators sites (now (targets .entry)) (now (orders .entry))) (now (modes .entry)) (decode planeLength sites (now (word .entry))) ⌝ }
 {
     let mut here = [0u8; WORD_BYTES];
     orbit::walk::copy(word, &mut here);
@@ -103,12 +114,7 @@ pub fn canonicalize_with_stabilizer(
             &here,
             word,
         ) {
-            Test::Breaks => {
-                return Traversed {
-                    answer: Traversal::Dropped,
-                    word: [0u8; WORD_BYTES],
-                };
-            }
+            Test::Breaks => return dropped(),
             Test::Fixes => fixing += 1,
             Test::Moves => {}
         }

@@ -47,8 +47,7 @@ slice-aggregate-fill-table-2 c = search needs
 fill-table-requires : tie.Need-fill-table-requires
 unfolding generatorsOf
 fill-table-requires c κs =
-    let s = c .before .before .before .before .before .before .before .before .before .before .before in
-    (
+    let s = c .before .before .before .before .before .before .before .before .before .before .before in (
       tables s,
       (c .before .before .before .before .before .modulus-of .ensures, (c .before .before .before .before .before .before .before .before .if1 .left, c .before .before .before .before .before .before .if2 .left ∙ c .before .before .before .before .before .before .before .order-of .ensures)),
     )

@@ -1,10 +1,10 @@
 -- `phase::numerator` meets its contract. The loop's invariant: what is summed and the phases of what is left are the phases of all.
 use Prim.Native.Nat.{_+_, _-_, _*_, _≤_}
-use mathlib.Core.Path.{_≡_, refl, sym, ap, _∙_}
+use mathlib.Core.Path.{_≡_}
 use native.Mathlib.Nat.{zero-add}
 use native.Mathlib.Omega.{arith}
 use denote.Ref.{now}
-use lib.ListN.{length, getD, drop}
+use lib.ListN.{getD, drop}
 use lib.IntN.{pos}
 use Rattle.momentum.proofs.Phases.{turn, turn-small, turn-read, sum-next, sum-numerator, modulus-small, modulus-positive}
 use Rattle.action.specs.Sector.{phases}
@@ -13,9 +13,6 @@ use Rattle.orbit.specs.Tables.{generatorsIn}
 use Rattle.orbit.proofs.Tables.{order-positive-at}
 use Rattle.momentum.proofs.phase.numerator.Statement.{statement}
 use Rattle.momentum.proofs.phase.numerator.Tie as tie
-use Rattle.momentum.proofs.phase.numerator.Reads as reads
-use Rattle.momentum.proofs.phase.numerator.Lts as lts
-use Rattle.momentum.proofs.phase.phase.Reads as phase-reads
 
 abbrev Inv-loop : tie.InvT-loop
 Inv-loop targets orders generators sites modulus modes counter m sum₀ g₀ sum g = (g ≤ generators) × (sum ≤ g * maxOrder) × (sum + phases m (drop g (generatorsIn generators sites targets orders)) (drop g modes) (drop g counter) ≡ phases m (generatorsIn generators sites targets orders) modes counter)
@@ -68,7 +65,7 @@ small c =
       arith,
       adds c,
       turn-small (s .args .modulus) (getD (now (s .args .orders)) g 0) (getD (now (s .args .modes)) g (pos 0)) (getD (now (s .args .counter)) g 0)
-      (order-positive-at (s .pre .0) g (c .before .before .before .before .loop-test .taken)),
+          (order-positive-at (s .pre .0) g (c .before .before .before .before .loop-test .taken)),
       modulus-small (s .pre .0) (s .args .modulus) (s .pre .1 .0),
     )
 
@@ -88,7 +85,7 @@ loop-again c =
       omega arith,
       omega (arith, small c),
       sum-next (s .pre .0) (now (s .args .modes)) (now (s .args .counter)) (s .pre .1 .1 .0) (s .pre .1 .1 .1) (s .args .modulus) (l .sum) (l .g) _
-      (c .phase .result) (c .before .before .before .before .loop-test .taken) (adds c) (l .inv .2),
+          (c .phase .result) (c .before .before .before .before .loop-test .taken) (adds c) (l .inv .2),
     )
 
 rem-result : tie.Need-rem-result Inv-loop μ-loop

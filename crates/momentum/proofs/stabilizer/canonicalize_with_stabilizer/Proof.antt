@@ -89,16 +89,19 @@ tested-requires c κs =
 enum-told : tie.Need-enum-told Inv-loop μ-loop
 enum-told c = search needs
 
+dropped-requires : tie.Need-dropped-requires Inv-loop μ-loop
+dropped-requires c κs = search needs
+
 returns : tie.Need-returns Inv-loop μ-loop
 returns c =
-    let s = c .before .before .before .before .before .before .before .before .before .before .before .before .before .before .before in
-    let l = c .before .before .before .before .before .loop in
+    let s = c .before .before .before .before .before .before .before .before .before .before .before .before .before .before .before .before in
+    let l = c .before .before .before .before .before .before .loop in
     let ks = now (s .args .modes) in
     let gs = generatorsIn (s .args .generators) (s .args .sites) (now (s .args .targets)) (now (s .args .orders)) in
     let w = decode planeLength (s .args .sites) (now (s .args .word)) in
-    let inside : l .i < orderOf gs = omega (arith, s .pre .1 .0, c .before .before .before .before .loop-test .taken) in
-    let breaks = sym (c .before .before .tested .ensures) ∙ c .enum-told .given .1 in
-    (traversal-broken gs ks w (l .i) inside breaks, word-broken gs ks w (l .i) inside breaks)
+    let inside : l .i < orderOf gs = omega (arith, s .pre .1 .0, c .before .before .before .before .before .loop-test .taken) in
+    let breaks = sym (c .before .before .before .tested .ensures) ∙ c .before .enum-told .given .1 in
+    (c .dropped .ensures .0 ∙ traversal-broken gs ks w (l .i) inside breaks, c .dropped .ensures .1 ∙ word-broken gs ks w (l .i) inside breaks)
 
 enum-told-2 : tie.Need-enum-told-2 Inv-loop μ-loop
 enum-told-2 c = search needs
@@ -188,6 +191,7 @@ canonicalize-with-stabilizer-spec =
     slice-aggregate-tested
     tested-requires
     enum-told
+    dropped-requires
     returns
     enum-told-2
     add-fixing
