@@ -89,10 +89,11 @@ pub fn sector_of(group: Group, word: &[u8], modes: &[i32], counter: &mut [u32]) 
     ensures word { λ r. ⌜ r .word ≡ orElse rowWord noWord (sectorOutcome group (group .sites) (now (word .entry)) (now (modes .entry)) (length (now (counter .entry)))) ⌝ }
     ensures counter { λ _. ⌜ now (counter .exit) ≡ orElse (rowCounter (now (counter .entry))) (now (counter .entry)) (sectorOutcome group (group .sites) (now (word .entry)) (now (modes .entry)) (length (now (counter .entry)))) ⌝ }
 {
-    if modes.len() != group.generators {
+    let generators = group.generators;
+    if modes.len() != generators {
         return no_row(Sector::Refused(Refusal::ModeCount));
     }
-    if counter.len() != group.generators {
+    if counter.len() != generators {
         return no_row(Sector::Refused(Refusal::ListLength));
     }
     decided(group, word, modes, counter)

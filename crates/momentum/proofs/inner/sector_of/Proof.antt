@@ -16,7 +16,7 @@ no-row-requires c κs = search needs
 
 returns : tie.Need-returns
 returns c =
-    let s = c .before .before .before .before .before in
+    let s = c .before .before .before .before in
     let a = s .args in
     let counter = now (a .counter) in
     let e = sector-modes (a .group) (s .pre .0) (now (a .word)) (s .pre .1) (now (a .modes)) (length counter) (c .before .if1 .taken) in (
@@ -29,10 +29,10 @@ no-row-requires-2 c κs = search needs
 
 returns-2 : tie.Need-returns-2
 returns-2 c =
-    let s = c .before .before .before .before .before .before .before in
+    let s = c .before .before .before .before .before in
     let a = s .args in
     let counter = now (a .counter) in
-    let modes = c .before .before .before .if1 .left in
+    let modes = c .before .before .if1 .left in
     let e = sector-length (a .group) (s .pre .0) (now (a .word)) (s .pre .1) (now (a .modes)) (length counter) modes (c .before .if2 .taken) in (
       ap outcomeOfSector (c .no-row2 .ensures .0) ∙ sym (ap (onAnswer sizeOf) e),
       (c .no-row2 .ensures .1 ∙ sym (ap (orElse rowWord noWord) e), sym (ap (orElse (rowCounter counter) counter) e)),
