@@ -8,7 +8,8 @@ use mathlib.Core.Path.{_≡_}
 use mathlib.Core.Logic.{_↔_}
 use mathlib.Core.Bool.{true, _&&_}
 use mathlib.Core.List.{List}
-use lib.IntN.{ℤ}
+use native.Mathlib.Omega.{arith}
+use lib.IntN.{ℤ, pos}
 use lib.ListN.{length, getD}
 use Rattle.pauli_word.specs.Limits.{planeLength}
 use Rattle.pauli_word.specs.Outcome.{answer}
@@ -21,6 +22,7 @@ use Rattle.action.specs.Index.{orderOf, digits}
 use Rattle.action.specs.Orbit.{reach, orbit, isIn, fixes, fixing, orbitSize}
 use Rattle.action.specs.Sector.{numerator, reducedModes, reducedDigits, Modes, keeps}
 use Rattle.action.specs.Count.{allModes}
+use Rattle.action.proofs.Index.{valid-positive}
 use Rattle.action.proofs.Theorems as Action
 use Rattle.group.specs.declared.Group.{Group}
 use Rattle.group.specs.Value.{GivenBy, generatorsOf}
@@ -30,6 +32,7 @@ use Rattle.momentum.specs.Calls.{numeratorOutcome, numerators, tableOutc
 use Rattle.momentum.specs.Counts.{acceptedWords, isOwn, isKept, pairs}
 use Rattle.momentum.proofs.Pairs as Pairs
 use Rattle.momentum.proofs.Words as Words
+use Rattle.momentum.proofs.Modes as Modes
 use Rattle.momentum.proofs.Given as Given
 use Rattle.momentum.proofs.Kept as Kept
 use Rattle.momentum.proofs.Numerators as Numerators
@@ -82,6 +85,12 @@ module _ (g : Group) where
 
     pub modes-once : NoRepeats (allModes gs)
     modes-once = Action.modes-once (Given.given-valid g given)
+
+    -- which a caller can hand over: each mode is a signed number of 32 bits
+    pub modes-fit : (ks : List ℤ) → Member ks (allModes gs) → (k : ℤ) → Member k ks → (j : ℕ) × (k ≡ pos j) × (j < 2 ^ 31)
+    modes-fit ks m k h =
+        let (j, e, l) = Modes.listed-below gs (valid-positive (Given.given-valid g given)) ks m k h in
+        (j, e, omega (arith, l, Given.given-small g given))
 
     -- the accepted words
     pub words-all : (bytes : List ℕ) → Member bytes (acceptedWords n) ↔ AcceptedWord planeLength n bytes

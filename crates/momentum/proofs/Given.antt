@@ -7,6 +7,8 @@ use lib.ListN.{length}
 use borrow.Author.Tests.{leb-true, le-ltb}
 use Rattle.pauli_word.specs.Limits.{maxSites}
 use Rattle.action.specs.Permutation.{Valid}
+use Rattle.action.specs.Index.{orderOf}
+use Rattle.permutation.specs.Limits.{maxOrder}
 use Rattle.orbit.proofs.Tables.{generators-length}
 use Rattle.group.specs.declared.Group.{Group}
 use Rattle.group.specs.Value.{GivenBy, generatorsOf, AcceptedGroup}
@@ -29,6 +31,10 @@ module _ (g : Group) (given : GivenBy g) where
   pub given-length : length (generatorsOf g) ≡ g .generators
   unfolding generatorsOf
   given-length = generators-length (accepted-tables g given-accepted (given-long .targets) (given-long .orders))
+
+  pub given-small : orderOf (generatorsOf g) ≤ maxOrder
+  unfolding generatorsOf
+  given-small = accepted-tables g given-accepted (given-long .targets) (given-long .orders) .small
 
   pub given-sites : g .sites ≤ maxSites
   given-sites = leb-true (g .sites) maxSites (given-accepted .few)

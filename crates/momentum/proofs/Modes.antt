@@ -1,8 +1,8 @@
 -- Mode lists and digit lists, reduced: their lengths, that reduced modes are listed, and that reducing changes neither numerators nor what is kept.
 use Prim.Native.Nat.{ℕ, suc, _<_}
-use native.Mathlib.Nat.{suc-inj, suc-ne-zero, mod-lt}
-use native.Mathlib.Omega.{arith}
+use native.Mathlib.Nat.{suc-inj, suc-ne-zero, lt-of-lt-of-le, le-mul-of-pos-right, mul-comm}
 use mathlib.Core.Path.{_≡_, refl, sym, ap, fun-ext}
+use mathlib.Core.Logic.{inl, inr}
 use mathlib.Core.Bool.{_||_, not}
 use mathlib.Core.List.{List, [], _∷_}
 use lib.Dec.{eqb}
@@ -15,8 +15,9 @@ use Rattle.action.specs.Index.{orderOf, digits}
 use Rattle.action.specs.Orbit.{fixes}
 use Rattle.action.specs.Sector.{reduced, reducedModes, reducedDigits, Modes, trivial, keeps}
 use Rattle.action.specs.Count.{allModes}
-use Rattle.action.proofs.Index.{Positive}
+use Rattle.action.proofs.Index.{Positive, order-of-positive}
 use Rattle.action.proofs.Characters.{modes-reduced, numerator-reduced-modes}
+use Rattle.momentum.proofs.Remainders.{reduced-below}
 
 modes-proper-length : (gs : List Generator) (ks : List ℤ) → Modes gs ks → length ks ≡ length gs
 modes-proper-length [] [] h = refl
@@ -27,6 +28,23 @@ modes-proper-length (g ∷ gs) (negsuc k ∷ ks) h = absurd h
 
 pub modes-length : (gs : List Generator) (ks : List ℤ) → Member ks (allModes gs) → length ks ≡ length gs
 modes-length gs ks m = modes-proper-length gs ks (modes-reduced gs ks .0 m)
+
+-- a listed mode is below the group order
+modes-below : (gs : List Generator) → Positive gs → (ks : List ℤ) → Modes gs ks → (k : ℤ) → Member k ks → (j : ℕ) × (k ≡ pos j) × (j < orderOf gs)
+unfolding orderOf
+modes-below [] p [] h k m = absurd m
+modes-below [] p (l ∷ ks) h k m = absurd h
+modes-below (g ∷ gs) p [] h k m = absurd h
+modes-below (g ∷ gs) p (negsuc a ∷ ks) h k m = absurd h
+modes-below (g ∷ gs) p (pos a ∷ ks) h k (inl e) =
+    (a, e, lt-of-lt-of-le (h .0) (le-mul-of-pos-right (g .order) (order-of-positive gs (p .1))))
+modes-below (g ∷ gs) p (pos a ∷ ks) h k (inr m) =
+    let (j, e, l) = modes-below gs (p .1) ks (h .1) k m in
+    (j, e, lt-of-lt-of-le l (rw (mul-comm (g .order) (orderOf gs)) (le-mul-of-pos-right (orderOf gs) (p .0))))
+
+pub listed-below : (gs : List Generator) → Positive gs → (ks : List ℤ) → Member ks (allModes gs) → (k : ℤ) → Member k ks
+    → (j : ℕ) × (k ≡ pos j) × (j < orderOf gs)
+listed-below gs p ks m = modes-below gs p ks (modes-reduced gs ks .0 m)
 
 pub reducedModes-length : (gs : List Generator) (ks : List ℤ) → length ks ≡ length gs → length (reducedModes gs ks) ≡ length gs
 unfolding reducedModes
@@ -39,11 +57,6 @@ unfolding reducedDigits
 reducedDigits-length [] cs e = refl
 reducedDigits-length (g ∷ gs) [] e = absurd (suc-ne-zero (length gs) (sym e))
 reducedDigits-length (g ∷ gs) (c ∷ cs) e = ap suc (reducedDigits-length gs cs (suc-inj e))
-
-reduced-below : (o : ℕ) (k : ℤ) → 0 < o → reduced o k < o
-unfolding reduced
-reduced-below o (pos k) h = mod-lt k h
-reduced-below o (negsuc k) h = omega arith
 
 reduced-proper : (gs : List Generator) (ks : List ℤ) → Positive gs → length ks ≡ length gs → Modes gs (reducedModes gs ks)
 unfolding reducedModes
