@@ -2,19 +2,15 @@
 // after a refusal.
 use crate::cycles;
 use crate::cycles::Cycles;
-use crate::print;
 use generators::GroupRefusal;
-use group::Done;
 use group::Group;
 use group::Grouped;
 use group::Lattice;
 use group::LatticeMade;
-use group::Number;
-use group::Refusal;
 use group::Step;
 use group::Walk;
+use lines::answers;
 use pauli_word::Ordering;
-use pauli_word::Spelled;
 ghost use mathlib.Core.Path.{_≡_};
 ghost use lib.ListN.{length};
 
@@ -121,19 +117,19 @@ pub fn lattices() {
 }
 
 fn show(name: &[u8], made: LatticeMade) {
-    print::text(name);
-    print::text(b": ");
+    lines::text(name);
+    lines::text(b": ");
     let answer = made.answer;
     let lattice = made.group;
     match answer {
         Lattice::Accepted => {
-            print::text(b"order ");
-            number_on(group::order(lattice));
-            print::text(b", phase modulus ");
-            number(group::phase_modulus(lattice));
+            lines::text(b"order ");
+            answers::number_on(group::order(lattice));
+            lines::text(b", phase modulus ");
+            answers::number(group::phase_modulus(lattice));
         }
-        Lattice::ZeroSide => print::refused(26),
-        Lattice::SidesTooLarge => print::refused(27),
+        Lattice::ZeroSide => lines::refused(26),
+        Lattice::SidesTooLarge => lines::refused(27),
     }
 }
 
@@ -146,26 +142,26 @@ pub fn indices() {
     index(torus, 23);
     index(torus, 24);
     let mut short = [7u32; 1];
-    print::text(b"counter_from_index 5 into 1 place: ");
-    done(group::counter_from_index(torus, 5, &mut short));
-    print::text(b"the list is ");
-    print::number32(short[0]);
-    print::text(b"\n");
+    lines::text(b"counter_from_index 5 into 1 place: ");
+    answers::done(group::counter_from_index(torus, 5, &mut short));
+    lines::text(b"the list is ");
+    lines::number32(short[0]);
+    lines::text(b"\n");
 }
 
 fn index(torus: Group, i: usize) {
     let mut counter = [9u32; 2];
-    print::text(b"index ");
-    print::number(i);
-    print::text(b": counter ");
+    lines::text(b"index ");
+    lines::number(i);
+    lines::text(b": counter ");
     let answer = group::counter_from_index(torus, i, &mut counter);
-    print::number32(counter[0]);
-    print::text(b" ");
-    print::number32(counter[1]);
-    print::text(b", ");
-    done_on(answer);
-    print::text(b", inverse ");
-    number(group::invert_index(torus, i));
+    lines::number32(counter[0]);
+    lines::text(b" ");
+    lines::number32(counter[1]);
+    lines::text(b", ");
+    answers::done_on(answer);
+    lines::text(b", inverse ");
+    answers::number(group::invert_index(torus, i));
 }
 
 // Least words with the index and the counter that lead back.
@@ -188,32 +184,32 @@ pub fn least_words() {
 fn least(g: Group, text: &[u8]) {
     let r = pauli_word::from_text(text);
     let word = r.word;
-    print::text(b"least of ");
-    print::text(text);
-    print::text(b": ");
+    lines::text(b"least of ");
+    lines::text(text);
+    lines::text(b": ");
     least_of(g, text.len(), &word);
 }
 
 fn least_of(g: Group, n: usize, word: &[u8]) {
     let found = group::canonicalize_with_index(g, n, word);
     let rep = found.word;
-    spell(n, &rep);
-    print::text(b" ");
+    lines::spell(n, &rep);
+    lines::text(b" ");
     let answer = found.answer;
-    number_on(answer);
+    answers::number_on(answer);
     let mut counter = [9u32; 2];
     let shifted = group::canonicalize_with_shift(g, n, word, &mut counter);
-    print::text(b"; counter ");
-    print::number32(counter[0]);
-    print::text(b" ");
-    print::number32(counter[1]);
-    print::text(b", ");
+    lines::text(b"; counter ");
+    lines::number32(counter[0]);
+    lines::text(b" ");
+    lines::number32(counter[1]);
+    lines::text(b", ");
     let shift = shifted.answer;
-    done_on(shift);
+    answers::done_on(shift);
     let plain = group::canonicalize(g, n, word);
-    print::text(b"; ");
+    lines::text(b"; ");
     let same = plain.answer;
-    done(same);
+    answers::done(same);
 }
 
 // Values and words that are refused: 1, 14 to 17, and 21. The lent lists are looked at after each refusal.
@@ -232,15 +228,15 @@ pub fn refusals() {
 }
 
 fn value(name: &[u8], g: Group) {
-    print::text(name);
-    print::text(b": ");
-    number_on(group::order(g));
-    print::text(b", counter_from_index: ");
+    lines::text(name);
+    lines::text(b": ");
+    answers::number_on(group::order(g));
+    lines::text(b", counter_from_index: ");
     let mut counter = [9u32; 1];
-    done_on(group::counter_from_index(g, 0, &mut counter));
-    print::text(b", the counter ");
-    print::number32(counter[0]);
-    print::text(b"\n");
+    answers::done_on(group::counter_from_index(g, 0, &mut counter));
+    lines::text(b", the counter ");
+    lines::number32(counter[0]);
+    lines::text(b"\n");
 }
 
 fn refused_words(ring4: Group, forged: Group) {
@@ -251,29 +247,29 @@ fn refused_words(ring4: Group, forged: Group) {
     high[0] = 16;
     refused_word(b"a bit at site 4 of 4", ring4, 4, &high);
     refused_word(b"a forged value and a short word", forged, 4, &[0u8; 63]);
-    print::text(b"an orbit list of 255 bytes: ");
+    lines::text(b"an orbit list of 255 bytes: ");
     let mut list = [5u8; 255];
-    done_on(group::orbit_list(ring4, 4, &[0u8; 64], &mut list));
+    answers::done_on(group::orbit_list(ring4, 4, &[0u8; 64], &mut list));
     kept(&list);
 }
 
 fn refused_word(name: &[u8], g: Group, n: usize, word: &[u8]) {
-    print::text(name);
-    print::text(b": ");
+    lines::text(name);
+    lines::text(b": ");
     let found = group::canonicalize_with_index(g, n, word);
     let answer = found.answer;
-    number_on(answer);
-    print::text(b", orbit_list: ");
+    answers::number_on(answer);
+    lines::text(b", orbit_list: ");
     let mut list = [5u8; 256];
-    done_on(group::orbit_list(g, n, word, &mut list));
+    answers::done_on(group::orbit_list(g, n, word, &mut list));
     kept(&list);
 }
 
 // Whether a list of fives is as it was.
 fn kept(list: &[u8]) {
     match pauli_word::compare(list, &[5u8; 256]) {
-        Ordering::Same => print::text(b", the list as it was\n"),
-        Ordering::Less | Ordering::Greater => print::text(b", the list changed\n"),
+        Ordering::Same => lines::text(b", the list as it was\n"),
+        Ordering::Less | Ordering::Greater => lines::text(b", the list changed\n"),
     }
 }
 
@@ -299,23 +295,23 @@ fn six_steps(ring4: Group, word: &[u8]) {
 
 fn listed(ring4: Group, word: &[u8]) {
     let mut list = [0u8; 256];
-    print::text(b"orbit_list: ");
-    done_on(group::orbit_list(ring4, 4, word, &mut list));
+    lines::text(b"orbit_list: ");
+    answers::done_on(group::orbit_list(ring4, 4, word, &mut list));
     spell_four(&list);
 }
 
 fn spell_four(list: &[u8])
     requires { ⌜ length (now list) ≡ 256 ⌝ }
 {
-    print::text(b" ");
-    spell(4, &list[0..64]);
-    print::text(b" ");
-    spell(4, &list[64..128]);
-    print::text(b" ");
-    spell(4, &list[128..192]);
-    print::text(b" ");
-    spell(4, &list[192..]);
-    print::text(b"\n");
+    lines::text(b" ");
+    lines::spell(4, &list[0..64]);
+    lines::text(b" ");
+    lines::spell(4, &list[64..128]);
+    lines::text(b" ");
+    lines::spell(4, &list[128..192]);
+    lines::text(b" ");
+    lines::spell(4, &list[192..]);
+    lines::text(b"\n");
 }
 
 // What stands beside a refused beginning gives no entry.
@@ -348,52 +344,24 @@ fn step(n: usize, walk: Walk) -> Walk {
     let s = walk.next();
     let answer = s.answer;
     let word = s.word;
-    print::text(b"next: ");
+    lines::text(b"next: ");
     match answer {
         Step::Entry(i) => {
-            print::text(b"entry ");
-            print::number(i);
-            print::text(b" ");
-            spell(n, &word);
-            print::text(b"\n");
+            lines::text(b"entry ");
+            lines::number(i);
+            lines::text(b" ");
+            lines::spell(n, &word);
+            lines::text(b"\n");
         }
-        Step::Finished => print::text(b"finished\n"),
-        Step::Refused(why) => print::refused(rule(why)),
+        Step::Finished => lines::text(b"finished\n"),
+        Step::Refused(why) => lines::refused(answers::rule(why)),
     }
     s.walk
 }
 
-fn spell(n: usize, word: &[u8]) {
-    let r = pauli_word::to_text(n, word);
-    let answer = r.answer;
-    let text = r.text;
-    if let Spelled::Letters(k) = answer {
-        print::first(&text, k);
-    }
-}
-
-fn done(d: Done) {
-    done_on(d);
-    print::text(b"\n");
-}
-
-fn done_on(d: Done) {
-    match d {
-        Done::Finished => print::text(b"done"),
-        Done::Refused(why) => one(rule(why)),
-    }
-}
-
-fn number_on(n: Number) {
-    match n {
-        Number::Value(k) => print::number(k),
-        Number::Refused(why) => one(rule(why)),
-    }
-}
-
 fn make(name: &[u8], sites: usize, list: &[u32], orders: &[u32]) {
-    print::text(name);
-    print::text(b": ");
+    lines::text(name);
+    lines::text(b": ");
     let made = group::try_from_generators(sites, list, orders);
     let answer = made.answer;
     let value = made.group;
@@ -403,22 +371,22 @@ fn make(name: &[u8], sites: usize, list: &[u32], orders: &[u32]) {
 fn report(answer: Grouped, made: Group) {
     match answer {
         Grouped::Accepted => {
-            print::text(b"order ");
-            number(group::order(made));
+            lines::text(b"order ");
+            answers::number(group::order(made));
         }
         Grouped::Refused(why) => {
             refusal(why);
-            print::text(b"; the value beside it: ");
-            number(group::order(made));
+            lines::text(b"; the value beside it: ");
+            answers::number(group::order(made));
         }
     }
 }
 
 fn refusal(why: GroupRefusal) {
     match why {
-        GroupRefusal::TooManySites => one(1),
-        GroupRefusal::ListEndsInside => one(2),
-        GroupRefusal::TooManyGenerators => one(3),
+        GroupRefusal::TooManySites => answers::one(1),
+        GroupRefusal::ListEndsInside => answers::one(2),
+        GroupRefusal::TooManyGenerators => answers::one(3),
         GroupRefusal::LengthMismatch(perms, orders) => three(4, perms, orders),
         GroupRefusal::PermutationLength(g, len) => three(5, g, len),
         GroupRefusal::TargetOutOfRange(g, t) => three(6, g, t as usize),
@@ -432,52 +400,25 @@ fn refusal(why: GroupRefusal) {
             exact as usize,
         ),
         GroupRefusal::NonCommuting(left, right) => three(11, left, right),
-        GroupRefusal::GroupOrderOverflow => one(12),
-        GroupRefusal::GroupOrderLimit => one(13),
+        GroupRefusal::GroupOrderOverflow => answers::one(12),
+        GroupRefusal::GroupOrderLimit => answers::one(13),
     }
 }
 
-fn one(rule: usize) {
-    print::text(b"refused ");
-    print::number(rule);
-}
-
 fn two(rule: usize, a: usize) {
-    one(rule);
-    print::text(b" ");
-    print::number(a);
+    answers::one(rule);
+    lines::text(b" ");
+    lines::number(a);
 }
 
 fn three(rule: usize, a: usize, b: usize) {
     two(rule, a);
-    print::text(b" ");
-    print::number(b);
+    lines::text(b" ");
+    lines::number(b);
 }
 
 fn four(rule: usize, a: usize, b: usize, c: usize) {
     three(rule, a, b);
-    print::text(b" ");
-    print::number(c);
-}
-
-fn number(n: Number) {
-    match n {
-        Number::Value(k) => {
-            print::number(k);
-            print::text(b"\n");
-        }
-        Number::Refused(why) => print::refused(rule(why)),
-    }
-}
-
-pub fn rule(why: Refusal) -> usize {
-    match why {
-        Refusal::TooManySites => 1,
-        Refusal::NotAGroup => 14,
-        Refusal::WordLength => 15,
-        Refusal::OtherSites => 16,
-        Refusal::BitAboveSites => 17,
-        Refusal::IndexRange => 19,
-        Refusal::ListLength => 21,
-    }
+    lines::text(b" ");
+    lines::number(c);
 }

@@ -1,7 +1,6 @@
 // Runs worked examples through the calls and prints what each comes to; the file `stdout` beside src/ is what it must print.
 mod cycles;
 mod groups;
-mod print;
 mod words;
 
 fn main() {

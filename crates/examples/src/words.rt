@@ -1,5 +1,4 @@
 // Words: texts good and bad, the limits of their length, refused words, the order.
-use crate::print;
 use pauli_word::Ordering;
 use pauli_word::Read;
 use pauli_word::Spelled;
@@ -62,54 +61,54 @@ pub fn order() {
 
 // What a text is read as: the text of the word again, and its weight.
 fn read(text: &[u8]) {
-    print::text(b"from_text ");
-    print::text(text);
-    print::text(b": ");
+    lines::text(b"from_text ");
+    lines::text(text);
+    lines::text(b": ");
     let r = pauli_word::from_text(text);
     let answer = r.answer;
     let word = r.word;
     match answer {
         Read::Sites(n) => {
             spell_on(n, &word);
-            print::text(b", ");
+            lines::text(b", ");
             weigh_on(n, &word);
         }
-        Read::TooManyLetters => print::refused(28),
-        Read::NotALetter(at) => print::refused_at(29, at),
+        Read::TooManyLetters => lines::refused(28),
+        Read::NotALetter(at) => lines::refused_at(29, at),
     }
 }
 
 // The same for a text too long to print.
 fn read_length(text: &[u8]) {
-    print::text(b"from_text of ");
-    print::number(text.len());
-    print::text(b" bytes: ");
+    lines::text(b"from_text of ");
+    lines::number(text.len());
+    lines::text(b" bytes: ");
     let r = pauli_word::from_text(text);
     let answer = r.answer;
     let word = r.word;
     match answer {
         Read::Sites(n) => weigh_on(n, &word),
-        Read::TooManyLetters => print::refused(28),
-        Read::NotALetter(at) => print::refused_at(29, at),
+        Read::TooManyLetters => lines::refused(28),
+        Read::NotALetter(at) => lines::refused_at(29, at),
     }
 }
 
 fn spell(n: usize, word: &[u8]) {
-    print::text(b"to_text, ");
-    print::number(n);
-    print::text(b" sites, ");
-    print::number(word.len());
-    print::text(b" bytes: ");
+    lines::text(b"to_text, ");
+    lines::number(n);
+    lines::text(b" sites, ");
+    lines::number(word.len());
+    lines::text(b" bytes: ");
     spell_on(n, word);
-    print::text(b"\n");
+    lines::text(b"\n");
 }
 
 fn weigh(n: usize, word: &[u8]) {
-    print::text(b"weight, ");
-    print::number(n);
-    print::text(b" sites, ");
-    print::number(word.len());
-    print::text(b" bytes: ");
+    lines::text(b"weight, ");
+    lines::number(n);
+    lines::text(b" sites, ");
+    lines::number(word.len());
+    lines::text(b" bytes: ");
     weigh_on(n, word);
 }
 
@@ -119,10 +118,10 @@ fn spell_on(n: usize, word: &[u8]) {
     let answer = r.answer;
     let text = r.text;
     match answer {
-        Spelled::Letters(k) => print::first(&text, k),
+        Spelled::Letters(k) => lines::first(&text, k),
         Spelled::Refused(why) => {
-            print::text(b"refused ");
-            print::number(rule(why));
+            lines::text(b"refused ");
+            lines::number(rule(why));
         }
     }
 }
@@ -130,11 +129,11 @@ fn spell_on(n: usize, word: &[u8]) {
 fn weigh_on(n: usize, word: &[u8]) {
     match pauli_word::weight(n, word) {
         Weighed::Weight(k) => {
-            print::text(b"weight ");
-            print::number(k);
-            print::text(b"\n");
+            lines::text(b"weight ");
+            lines::number(k);
+            lines::text(b"\n");
         }
-        Weighed::Refused(why) => print::refused(rule(why)),
+        Weighed::Refused(why) => lines::refused(rule(why)),
     }
 }
 
@@ -151,14 +150,14 @@ fn compare(a: &[u8], b: &[u8]) {
     let second = pauli_word::from_text(b);
     let v = first.word;
     let w = second.word;
-    print::text(b"compare ");
-    print::text(a);
-    print::text(b" ");
-    print::text(b);
-    print::text(b": ");
+    lines::text(b"compare ");
+    lines::text(a);
+    lines::text(b" ");
+    lines::text(b);
+    lines::text(b": ");
     match pauli_word::compare(&v, &w) {
-        Ordering::Less => print::text(b"less\n"),
-        Ordering::Same => print::text(b"same\n"),
-        Ordering::Greater => print::text(b"greater\n"),
+        Ordering::Less => lines::text(b"less\n"),
+        Ordering::Same => lines::text(b"same\n"),
+        Ordering::Greater => lines::text(b"greater\n"),
     }
 }

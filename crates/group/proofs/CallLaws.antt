@@ -35,7 +35,7 @@ pub call-refused : {A : Type 0} (cs : List Check) (o : Outcome A) (why : Refusal
 call-refused cs o why e = ap (λ (v : Outcome (Unit {0})). given v o) e ∙ given-refusal why o
 
 -- further checks come after the first
-verdict-append : (cs ds : List Check) → verdict (cs ++ ds) ≡ given (verdict cs) (verdict ds)
+pub verdict-append : (cs ds : List Check) → verdict (cs ++ ds) ≡ given (verdict cs) (verdict ds)
 verdict-append [] ds = refl
 verdict-append (c ∷ cs) ds = go (c .broken) (verdict-append cs ds)
   where

@@ -41,7 +41,7 @@ pub record Long (g : Group) : Type 0 where
 
 -- generators, taken apart and put together again
 
-declared-parts : (gs : List Generator) → declared (map (λ x. x .perm) gs) (map (λ x. x .order) gs) ≡ gs
+pub declared-parts : (gs : List Generator) → declared (map (λ x. x .perm) gs) (map (λ x. x .order) gs) ≡ gs
 unfolding declared
 declared-parts [] = refl
 declared-parts (g ∷ gs) = ap (λ (l : List Generator). g ∷ l) (declared-parts gs)

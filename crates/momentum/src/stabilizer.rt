@@ -76,20 +76,21 @@ pub fn dropped() -> Traversed
     }
 }
 
-// One traversal of the group: it stops at the first fixing index with a numerator other than 0, and else gives the least word.
+// One traversal of the group, with phase modulus m: it stops at the first fixing index with a numerator other than 0, and else gives the least
+// word.
 pub fn canonicalize_with_stabilizer(
     targets: &[u32],
     orders: &[u32],
     generators: usize,
     sites: usize,
     order: usize,
-    modulus: usize,
+    m: usize,
     modes: &[i32],
     word: &[u8],
 ) -> Traversed
     requires { ⌜ Tables generators sites (now targets) (now orders) ⌝ }
     requires { ⌜ order ≡ orderOf (generatorsIn generators sites (now targets) (now orders)) ⌝ }
-    requires { ⌜ modulus ≡ modulusOf (generatorsIn generators sites (now targets) (now orders)) ⌝ }
+    requires { ⌜ m ≡ modulusOf (generatorsIn generators sites (now targets) (now orders)) ⌝ }
     requires { ⌜ length (now modes) ≡ generators ⌝ }
     requires { ⌜ AcceptedWord planeLength sites (now word) ⌝ }
     ensures answer { λ r. ⌜ r .answer ≡ traversal (generatorsIn generators sites (now (targets .entry)) (now (orders .entry))) (now (modes .entry)) (decode planeLength sites (now (word .entry))) ⌝ }
@@ -103,17 +104,7 @@ pub fn canonicalize_with_stabilizer(
     let mut fixing = 0;
     let mut i = 0;
     while i < order {
-        match tested(
-            targets,
-            orders,
-            generators,
-            sites,
-            modulus,
-            modes,
-            i,
-            &here,
-            word,
-        ) {
+        match tested(targets, orders, generators, sites, m, modes, i, &here, word) {
             Test::Breaks => return dropped(),
             Test::Fixes => fixing += 1,
             Test::Moves => {}

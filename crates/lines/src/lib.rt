@@ -1,5 +1,8 @@
-// Lines on standard output.
+// Lines on standard output, for the example programs: texts, numbers, words and refusals here, the answers of calls in `answers`.
+pub mod answers;
+
 use libc::STDOUT_FILENO;
+use pauli_word::Spelled;
 
 pub fn text(bytes: &[u8]) {
     io::write_all(STDOUT_FILENO, bytes);
@@ -18,6 +21,26 @@ pub fn number(n: usize) {
 
 pub fn number32(n: u32) {
     number(n as usize);
+}
+
+// A number with its sign.
+pub fn signed32(n: i32) {
+    if n < 0 {
+        text(b"-");
+        io::print_decimal(STDOUT_FILENO, (-(n as i64)) as u64);
+    } else {
+        io::print_decimal(STDOUT_FILENO, n as u64);
+    }
+}
+
+// The letters of a word; nothing of what is no word.
+pub fn spell(n: usize, word: &[u8]) {
+    let r = pauli_word::to_text(n, word);
+    let answer = r.answer;
+    let letters = r.text;
+    if let Spelled::Letters(k) = answer {
+        first(&letters, k);
+    }
 }
 
 // A refusal by its number.

@@ -1,10 +1,10 @@
--- `print::first` meets its contract: the part has as many bytes as it asks for.
+-- `first` meets its contract: the part has as many bytes as it asks for.
 use mathlib.Core.Path.{sym}
 use lib.Seq.{length-take-le}
 use denote.Ref.{now}
 use borrow.Author.Needs.{needs}
-use Rattle.examples.proofs.print.first.Statement.{statement}
-use Rattle.examples.proofs.print.first.Tie as tie
+use Rattle.lines.proofs.first.Statement.{statement}
+use Rattle.lines.proofs.first.Tie as tie
 
 slice-aggregate-text : tie.Need-slice-aggregate-text
 slice-aggregate-text c = let a = c .before .before .before .args in sym (length-take-le (a .k) (now (a .bytes)) (c .before .if1 .taken))

@@ -1,0 +1,168 @@
+-- What is promised of what a sheet prints, to be read without the proofs: each statement is followed by the law that shows it.
+--
+-- 1 An accepted sheet, 2 A refused sheet, 3 How long it is. The statements are about the definitions of `specs/`, and about these: `OneLine`, a text
+-- whose only line end is its last byte; `valueLines`, the lines of a sheet after the third; `together`, texts one after the other.
+use Prim.Native.Nat.{ℕ, zero, suc, _+_, _/_, _%_, _≤_}
+use mathlib.Core.Path.{_≡_, refl, sym, ap, ap₂, _∙_}
+use mathlib.Core.Bool.{Bool, true, false, cond, not, _&&_, and-eq-true-iff}
+use mathlib.Core.List.{List, [], _∷_, _++_, map, append-assoc}
+use native.Mathlib.Omega.{arith}
+use lib.Dec.{eqb, ltb}
+use lib.IntN.{ℤ}
+use lib.ListN.{length, getD, drop}
+use borrow.Author.Tests.{ne-eqb}
+use Rattle.pauli_word.specs.Outcome.{Outcome, refused, answer, verdict, given}
+use Rattle.pauli_word.specs.Word.{Letter, I, X, Y, Z, Word, weight}
+use Rattle.pauli_word.specs.Text.{glyph, readText, spell}
+use Rattle.action.specs.Lists.{every}
+use Rattle.action.specs.Permutation.{Generator}
+use Rattle.action.specs.Orbit.{least, indexBack, orbitSize}
+use Rattle.action.specs.Sector.{keeps}
+use Rattle.group.proofs.Given.{unless-answer}
+use Rattle.text.specs.Text.{lineEnd, space, pieces, digitsOf, decimal, modeOf}
+use Rattle.sheet_text.specs.Sheet.{
+  tableNames,
+  refusedName,
+  zeroText,
+  oneText,
+  missing,
+  modesOf,
+  lineShape,
+  fields,
+  field,
+  lineChecks,
+  sheetSize,
+  maxTable,
+  joined,
+  row,
+  lineRow,
+  rows,
+  lineGenerators,
+  table,
+  sheetOutcome,
+  printed,
+  sheet,
+}
+use Rattle.sheet_text.proofs.Fits as Fits
+
+-- a text whose only line end is its last byte
+abbrev noEnd : List ℕ → Bool
+noEnd text = every (λ b. not (eqb b lineEnd)) text
+
+pub record OneLine (text : List ℕ) : Type 0 where
+  pub line : List ℕ
+  pub ended : text ≡ line ++ (lineEnd ∷ [])
+  pub whole : noEnd line ≡ true
+
+-- all but the last
+abbrev pub front : List (List ℕ) → List (List ℕ)
+front [] = []
+front (p ∷ []) = []
+front (p ∷ q ∷ ps) = p ∷ front (q ∷ ps)
+
+-- the lines of a sheet after the third
+abbrev pub valueLines : List ℕ → List (List ℕ)
+valueLines input = front (drop 3 (pieces lineEnd input))
+
+-- texts one after the other
+abbrev pub together : List (List ℕ) → List ℕ
+together [] = []
+together (t ∷ ts) = t ++ together ts
+
+-- ---- lines
+
+every-append : (p : ℕ → Bool) (xs ys : List ℕ) → every p xs ≡ true → every p ys ≡ true → every p (xs ++ ys) ≡ true
+unfolding every
+every-append p [] ys a b = b
+every-append p (x ∷ xs) ys a b =
+    let both = and-eq-true-iff (p x) (every p xs) .0 a in
+    and-eq-true-iff (p x) (every p (xs ++ ys)) .1 (both .0, every-append p xs ys (both .1) b)
+
+spell-whole : (w : Word) → noEnd (spell w) ≡ true
+unfolding every
+spell-whole [] = refl
+spell-whole (I ∷ w) = spell-whole w
+spell-whole (X ∷ w) = spell-whole w
+spell-whole (Y ∷ w) = spell-whole w
+spell-whole (Z ∷ w) = spell-whole w
+
+digits-whole : (f n : ℕ) → noEnd (digitsOf f n) ≡ true
+unfolding digitsOf every
+digits-whole zero n = refl
+digits-whole (suc f) n = go (ltb n 10) (digits-whole f (n / 10))
+  where
+    digit : (k : ℕ) → noEnd ((48 + k) ∷ []) ≡ true
+    digit k = rw (ne-eqb (48 + k) 10 (λ e. omega arith))
+
+    go : (b : Bool) → noEnd (digitsOf f (n / 10)) ≡ true → noEnd (cond b ((48 + n) ∷ []) (digitsOf f (n / 10) ++ ((48 + n % 10) ∷ []))) ≡ true
+    go true h = digit n
+    go false h = every-append (λ b. not (eqb b lineEnd)) (digitsOf f (n / 10)) ((48 + n % 10) ∷ []) h (digit (n % 10))
+
+decimal-whole : (n : ℕ) → noEnd (decimal n) ≡ true
+unfolding decimal
+decimal-whole n = digits-whole 20 n
+
+joined-one : (f : List ℕ) (fs : List (List ℕ)) → every noEnd (f ∷ fs) ≡ true → OneLine (joined (f ∷ fs))
+unfolding joined every
+joined-one f [] h = record { line = f; ended = refl; whole = and-eq-true-iff (noEnd f) true .0 h .0 }
+joined-one f (g ∷ fs) h =
+    let both = and-eq-true-iff (noEnd f) (every noEnd (g ∷ fs)) .0 h in
+    let more = joined-one g fs (both .1) in
+    record {
+      line = f ++ (space ∷ more .line);
+      ended = ap (λ (t : List ℕ). f ++ (space ∷ t)) (more .ended) ∙ sym (append-assoc f (space ∷ more .line) (lineEnd ∷ []));
+      whole = every-append (λ b. not (eqb b lineEnd)) f (space ∷ more .line) (both .0) (more .whole);
+    }
+
+rows-together : (m : ℕ) (gs : List Generator) (ps : List (List ℕ)) → rows m gs ps ≡ together (map (lineRow m gs) (front ps))
+unfolding rows
+rows-together m gs [] = refl
+rows-together m gs (p ∷ []) = refl
+rows-together m gs (p ∷ q ∷ ps) = ap (λ (t : List ℕ). lineRow m gs p ++ t) (rows-together m gs (q ∷ ps))
+
+-- ---- 1 An accepted sheet prints the names line, and then a line for each value line, in order
+
+pub row-line : (gs : List Generator) (w : Word) (ks : List ℤ) → OneLine (row gs w ks)
+unfolding row every
+row-line gs w ks = go (keeps gs ks w)
+  where
+    go : (b : Bool)
+        → OneLine (joined (cond b
+        (spell w ∷ spell (least gs w) ∷ decimal (indexBack gs w) ∷ decimal (orbitSize gs w) ∷ decimal (weight w) ∷ oneText ∷ [])
+        (spell w ∷ missing ∷ missing ∷ missing ∷ decimal (weight w) ∷ zeroText ∷ [])))
+    go true =
+        joined-one (spell w) (spell (least gs w) ∷ decimal (indexBack gs w) ∷ decimal (orbitSize gs w) ∷ decimal (weight w) ∷ oneText ∷ [])
+        (rw (spell-whole w, spell-whole (least gs w), decimal-whole (indexBack gs w), decimal-whole (orbitSize gs w), decimal-whole (weight w)))
+    go false =
+        joined-one (spell w) (missing ∷ missing ∷ missing ∷ decimal (weight w) ∷ zeroText ∷ []) (rw (spell-whole w, decimal-whole (weight w)))
+
+module _ (input : List ℕ) where
+  -- the line of the shape
+  abbrev shape : List ℕ
+  shape = getD (pieces lineEnd input) 1 []
+
+  pub accepted-prints : (text : List ℕ) → sheetOutcome input ≡ answer text
+      → text ≡ together ((tableNames ++ (lineEnd ∷ [])) ∷ map (lineRow (modesOf (lineShape shape)) (lineGenerators shape)) (valueLines input))
+  unfolding sheetOutcome table
+  accepted-prints text e =
+      sym (unless-answer (sheetSize input ∷ lineChecks (pieces lineEnd input)) (table (pieces lineEnd input)) text e .1)
+      ∙ ap (λ (t : List ℕ). tableNames ++ (lineEnd ∷ t)) (rows-together (modesOf (lineShape shape)) (lineGenerators shape) (drop 3 (pieces lineEnd input)))
+
+  pub accepted-line : (line : List ℕ) → OneLine (lineRow (modesOf (lineShape shape)) (lineGenerators shape) line)
+  unfolding lineRow
+  accepted-line line = row-line (lineGenerators shape) (readText (field 0 line)) _
+
+  -- ---- 2 A refused sheet prints exactly one line
+
+  pub refused-line : (k : ℕ) (vs : List ℕ) → sheetOutcome input ≡ refused k vs → OneLine (sheet input)
+  unfolding sheet every
+  refused-line k vs e = rw e (go vs)
+    where
+      go : (vs : List ℕ) → OneLine (printed (refused k vs))
+      go [] = joined-one refusedName (decimal k ∷ []) (rw (decimal-whole k))
+      go (l ∷ vs) = joined-one refusedName (decimal k ∷ decimal l ∷ []) (rw (decimal-whole k, decimal-whole l))
+
+  -- ---- 3 How long it is: a list of `maxTable` bytes suffices
+
+  pub sheet-fits : length (sheet input) ≤ maxTable
+  sheet-fits = Fits.sheet-fits input

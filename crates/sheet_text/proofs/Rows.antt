@@ -1,0 +1,392 @@
+-- Rows: texts written one after the other into a list, the parts of a word's row, and a value line that breaks no rule.
+-- What carries it: two writes, each from where the one before ends, write the two texts as one (`writes-then`), so that a chain of them writes a row.
+use Prim.Native.Nat.{ℕ, zero, suc, _+_, _-_, _*_, _≤_, _<_}
+use mathlib.Core.Path.{_≡_, refl, sym, ap, ap₂, subst, _∙_}
+use mathlib.Core.Bool.{Bool, true, false, _&&_, not, cond, and-eq-true-iff}
+use mathlib.Core.List.{List, [], _∷_, _++_, map}
+use native.Mathlib.Nat.{div-le-self, sub-zero}
+use native.Mathlib.Omega.{arith}
+use lib.Dec.{eqb, ltb}
+use lib.IntN.{ℤ}
+use lib.ListN.{length, getD, take, drop, length-append, length-map}
+use lib.Seq.{take-at, length-take-le}
+use borrow.Author.Tests.{eqb-true, not-false}
+use Rattle.pauli_word.specs.declared.WordRefusal.{WordRefusal}
+use Rattle.pauli_word.specs.declared.WordRefusal.the-variants.{TooManySites, WordLength, BitAboveSites}
+use Rattle.pauli_word.specs.declared.Weighed.{Weighed}
+use Rattle.pauli_word.specs.declared.Weighed.the-variants as Weighed
+use Rattle.pauli_word.specs.Limits.{maxSites, planeLength}
+use Rattle.pauli_word.specs.Outcome.{answer, verdict, orElse}
+use Rattle.pauli_word.specs.Word.{Letter, I, X, Y, Z, Word, letterWeight, weight}
+use Rattle.pauli_word.specs.Bytes.{decode, encode, AcceptedWord}
+use Rattle.pauli_word.specs.Text.{letter, glyph, lettersAlone, readText, spell}
+use Rattle.pauli_word.specs.Calls.{wordChecks, refusalOf, fromTextBytes, toTextOutcome, toTextBytes, weightOutcome, outcomeOfWeighed}
+use Rattle.pauli_word.proofs.Words.{decode-length, decode-encode, encode-accepted}
+use Rattle.pauli_word.proofs.Texts.{spell-readText, no-other}
+use Rattle.pauli_word.proofs.Checks.{accepted-passes, call-answers}
+use Rattle.action.specs.Lists.{every}
+use Rattle.action.specs.Permutation.{Generator, Valid}
+use Rattle.action.specs.Index.{orderOf}
+use Rattle.action.specs.Orbit.{least, indexBack, orbitSize, fixing}
+use Rattle.action.specs.Sector.{keeps}
+use Rattle.action.proofs.Canonical.{least-length, back-below}
+use Rattle.permutation.specs.Limits.{maxOrder}
+use Rattle.permutation.proofs.Rules.{verdict-fine}
+use Rattle.momentum.specs.declared.inner.Placement.{Placement}
+use Rattle.momentum.specs.declared.inner.Placement.the-variants as Placement
+use Rattle.momentum.specs.Parts.{placement, placementWord}
+use Rattle.text.specs.Text.{lineEnd, space, sameText, isMode, modeOf, decimal, put}
+use Rattle.text.specs.Parts.{fourFields, fieldLength, fieldsRead}
+use Rattle.text.specs.declared.read.Fields.{Fields}
+use Rattle.text.specs.declared.read.Fields.the-variants as Fields
+use Rattle.text.proofs.Puts.{put-put, put-length}
+use Rattle.text.proofs.Decimals.{decimal-short}
+use Rattle.text.proofs.Pieces.{part, FourParts, four-parts, parts-read}
+use Rattle.sheet_text.specs.Sheet.{refusedName, zeroText, oneText, missing, fields, field, firstPass, atLine}
+use Rattle.sheet_text.specs.Sheet.{letterChecks, valueChecks, joined, row, lineRow}
+use Rattle.sheet_text.specs.Parts.{modeOrZero, rest}
+
+-- ---- texts one after the other
+
+-- a text written into a list from a place on: where it ends, and the list afterwards
+pub record Writes (at : ℕ) (text list : List ℕ) (place : ℕ) (next : List ℕ) : Type 0 where
+  pub ends : place ≡ at + length text
+  pub made : next ≡ put at text list
+  pub room : at + length text ≤ length list
+
+-- the list keeps its length
+pub writes-length : {at place : ℕ} {text list next : List ℕ} → Writes at text list place next → length next ≡ length list
+writes-length {at} {text} {list} w = ap length (w .made) ∙ put-length at text list (w .room)
+
+-- what a text of at most m bytes leaves of the room
+pub writes-room :
+    {at place : ℕ} {text list next : List ℕ} (m n : ℕ) → Writes at text list place next → length text ≤ m → at + (m + n) ≤ length list
+    → place + n ≤ length next
+writes-room m n w short room = omega (arith, w .ends, writes-length w)
+
+-- two texts
+pub writes-then :
+    {at p q : ℕ} {s t list mid next : List ℕ} → Writes at s list p mid → Writes p t mid q next → Writes at (s ++ t) list q next
+writes-then {at} {p} {q} {s} {t} {list} {mid} {next} v w =
+    let long : length mid ≡ length list = writes-length v in
+    let e : p ≡ at + length s = v .ends in
+    let r : p + length t ≤ length mid = w .room in
+    let d : length (s ++ t) ≡ length s + length t = length-append s t in
+    let k : q ≡ p + length t = w .ends in
+    record {
+      ends = omega arith;
+      made =
+          w .made
+          ∙ ap₂ (λ (j : ℕ) (l : List ℕ). put j t l) e (v .made)
+          ∙ put-put at s t list (omega arith);
+      room = omega arith;
+    }
+
+-- as a function's contract has it
+pub text-writes :
+    {at place : ℕ} {text list next : List ℕ} → (place ≡ at + length text) × (next ≡ put at text list) → at + length text ≤ length list
+    → Writes at text list place next
+text-writes e room = record { ends = e .0; made = e .1; room = room }
+
+pub number-writes :
+    {at place number : ℕ} {list next : List ℕ} → (place ≡ at + length (space ∷ decimal number)) × (next ≡ put at (space ∷ decimal number) list)
+    → number < 10000000 → at + 8 ≤ length list → Writes at (space ∷ decimal number) list place next
+number-writes {at} {number} e small room = text-writes e (omega (arith, decimal-short number small))
+
+pub writes-as :
+    {at place : ℕ} {s t list next : List ℕ} → Writes at s list place next → s ≡ t → (place ≡ at + length t) × (next ≡ put at t list)
+writes-as {at} {list} w e = (w .ends ∙ ap (λ (l : List ℕ). at + length l) e, w .made ∙ ap (λ (l : List ℕ). put at l list) e)
+
+-- ---- fields that follow each other
+
+rest-length : (f : List ℕ) (fs : List (List ℕ)) → length (rest (f ∷ fs)) ≡ suc (length f + length (rest fs))
+unfolding rest
+rest-length f fs = ap suc (length-append f (rest fs))
+
+end-length : (f : List ℕ) → length (rest (f ∷ [])) ≡ length f + 2
+unfolding rest
+end-length f = omega (arith, length-append f (lineEnd ∷ []))
+
+-- what follows a word has at most so many bytes
+pub dropped-short : (k : ℕ) → k < 10000000 → length (rest (missing ∷ missing ∷ missing ∷ decimal k ∷ zeroText ∷ [])) ≤ 17
+dropped-short k h =
+    let more : List (List ℕ) = decimal k ∷ zeroText ∷ [] in
+    omega (
+      arith,
+      decimal-short k h,
+      rest-length missing (missing ∷ missing ∷ more),
+      rest-length missing (missing ∷ more),
+      rest-length missing more,
+      rest-length (decimal k) (zeroText ∷ []),
+      end-length zeroText,
+    )
+
+pub numbers-short :
+    (i j k : ℕ) → i < 10000000 → j < 10000000 → k < 10000000 → length (rest (decimal i ∷ decimal j ∷ decimal k ∷ oneText ∷ [])) ≤ 27
+numbers-short i j k hi hj hk =
+    omega (
+      arith,
+      decimal-short i hi,
+      decimal-short j hj,
+      decimal-short k hk,
+      rest-length (decimal i) (decimal j ∷ decimal k ∷ oneText ∷ []),
+      rest-length (decimal j) (decimal k ∷ oneText ∷ []),
+      rest-length (decimal k) (oneText ∷ []),
+      end-length oneText,
+    )
+
+pub kept-short :
+    (f : List ℕ) (i j k : ℕ) → i < 10000000 → j < 10000000 → k < 10000000
+    → length (rest (f ∷ decimal i ∷ decimal j ∷ decimal k ∷ oneText ∷ [])) ≤ length f + 28
+kept-short f i j k hi hj hk =
+    omega (arith, numbers-short i j k hi hj hk, rest-length f (decimal i ∷ decimal j ∷ decimal k ∷ oneText ∷ []))
+
+-- the pieces of what follows a word
+pub dropped-pieces :
+    (k : ℕ) → (space ∷ 45 ∷ space ∷ 45 ∷ space ∷ 45 ∷ []) ++ ((space ∷ decimal k) ++ (space ∷ 48 ∷ lineEnd ∷ []))
+    ≡ rest (missing ∷ missing ∷ missing ∷ decimal k ∷ zeroText ∷ [])
+unfolding rest
+dropped-pieces k = refl
+
+pub numbers-pieces :
+    (i j k : ℕ) → (space ∷ decimal i) ++ ((space ∷ decimal j) ++ ((space ∷ decimal k) ++ (space ∷ 49 ∷ lineEnd ∷ [])))
+    ≡ rest (decimal i ∷ decimal j ∷ decimal k ∷ oneText ∷ [])
+unfolding rest
+numbers-pieces i j k = refl
+
+pub kept-pieces : (f : List ℕ) (fs : List (List ℕ)) → (space ∷ []) ++ (f ++ rest fs) ≡ rest (f ∷ fs)
+unfolding rest
+kept-pieces f fs = refl
+
+pub refusal-pieces :
+    (rule line : ℕ) → refusedName ++ ((space ∷ decimal rule) ++ ((space ∷ decimal line) ++ (lineEnd ∷ [])))
+    ≡ joined (refusedName ∷ decimal rule ∷ decimal line ∷ [])
+unfolding joined
+refusal-pieces rule line = refl
+
+pub joined-rest : (f : List ℕ) (fs : List (List ℕ)) → joined (f ∷ fs) ≡ f ++ rest fs
+unfolding joined rest
+joined-rest f [] = refl
+joined-rest f (g ∷ fs) = ap (λ (t : List ℕ). f ++ (space ∷ t)) (joined-rest g fs)
+
+-- ---- a word and its text
+
+module _ (n : ℕ) (bytes : List ℕ) (ok : AcceptedWord planeLength n bytes) where
+  abbrev text : List ℕ
+  text = spell (decode planeLength n bytes)
+
+  pub spelled-length : length text ≡ n
+  spelled-length = length-map (decode planeLength n bytes) glyph ∙ decode-length ok
+
+  -- the text stands at the front of what spelling gives; `&list[0..n]` denotes it
+  pub spelled-front : {list : List ℕ} → list ≡ toTextBytes n bytes → take (n - 0) list ≡ text
+  unfolding toTextBytes toTextOutcome
+  spelled-front {list} e =
+      let answers : toTextOutcome n bytes ≡ answer text = call-answers (wordChecks n bytes) (answer text) (accepted-passes n bytes ok) in
+      ap (take (n - 0)) e ∙ rw answers (take-at text _ (n - 0) (omega (arith, spelled-length)))
+
+  -- an accepted word has its weight
+  pub weighs : weightOutcome n bytes ≡ answer (weight (decode planeLength n bytes))
+  unfolding weightOutcome
+  weighs = call-answers (wordChecks n bytes) (answer (weight (decode planeLength n bytes))) (accepted-passes n bytes ok)
+
+  never : (why : WordRefusal) (k : ℕ) → refusalOf why ≡ answer k → ⊥
+  never TooManySites k e = let z : _≡_ {A = ℕ} 0 1 = cc in omega arith
+  never WordLength k e = let z : _≡_ {A = ℕ} 0 1 = cc in omega arith
+  never BitAboveSites k e = let z : _≡_ {A = ℕ} 0 1 = cc in omega arith
+
+  pub not-refused : {r : Weighed} {why : WordRefusal} → outcomeOfWeighed r ≡ weightOutcome n bytes → r ≡ Weighed.Refused why → ⊥
+  not-refused {r} {why} e f = never why (weight (decode planeLength n bytes)) (sym (ap outcomeOfWeighed f) ∙ e ∙ weighs)
+
+  pub weighed : {r : Weighed} {k : ℕ} → outcomeOfWeighed r ≡ weightOutcome n bytes → r ≡ Weighed.Weight k → k ≡ weight (decode planeLength n bytes)
+  weighed {r} {k} e f = let g : answer k ≡ answer (weight (decode planeLength n bytes)) = sym (ap outcomeOfWeighed f) ∙ e ∙ weighs in cc
+
+-- a letter has two bits
+letter-light : (a : Letter) → letterWeight a ≤ 2
+letter-light I = omega arith
+letter-light X = omega arith
+letter-light Y = omega arith
+letter-light Z = omega arith
+
+pub weight-small : (w : Word) → weight w ≤ 2 * length w
+unfolding weight
+weight-small [] = omega arith
+weight-small (a ∷ w) = omega (arith, letter-light a, weight-small w)
+
+-- the word that a text of n letters writes
+module _ (n : ℕ) (text bytes : List ℕ) (alone : lettersAlone text ≡ true) (long : length text ≡ n) (few : n ≤ maxSites)
+    (read : bytes ≡ fromTextBytes text) where
+  letters : length (readText text) ≡ n
+  letters = length-map text letter ∙ long
+
+  short : length (readText text) ≤ 8 * planeLength
+  short = omega (arith, letters)
+
+  encoded : bytes ≡ encode planeLength (readText text)
+  unfolding fromTextBytes
+  encoded = read ∙ ap (orElse (encode planeLength) _) (no-other text (omega arith) alone)
+
+  pub read-accepted : AcceptedWord planeLength n bytes
+  read-accepted = rw (encoded, sym letters) (encode-accepted planeLength (readText text) short)
+
+  pub weight-few : weight (readText text) < 10000000
+  weight-few = omega (arith, weight-small (readText text), letters)
+
+  pub read-word : decode planeLength n bytes ≡ readText text
+  read-word = ap₂ (decode planeLength) (sym letters) encoded ∙ decode-encode planeLength (readText text) short
+
+-- ---- the row of a word
+
+module _ (gs : List Generator) (ks : List ℤ) (text : List ℕ) (alone : lettersAlone text ≡ true) where
+  abbrev w : Word
+  w = readText text
+
+  -- without a least word
+  pub row-dropped :
+      placement gs ks w ≡ Placement.Dropped → row gs w ks ≡ text ++ rest (missing ∷ missing ∷ missing ∷ decimal (weight w) ∷ zeroText ∷ [])
+  unfolding row
+  row-dropped e = go (keeps gs ks w) refl e
+    where
+      go :
+          (b : Bool) → keeps gs ks w ≡ b → cond b (Placement.Kept (indexBack gs w) (orbitSize gs w)) Placement.Dropped ≡ Placement.Dropped
+          → row gs w ks ≡ text ++ rest (missing ∷ missing ∷ missing ∷ decimal (weight w) ∷ zeroText ∷ [])
+      go true t h = let z : _≡_ {A = ℕ} 0 1 = cc in absurd (omega arith)
+      go false t h =
+          rw t (joined-rest (spell w) (missing ∷ missing ∷ missing ∷ decimal (weight w) ∷ zeroText ∷ [])
+          ∙ ap (λ (f : List ℕ). f ++ rest (missing ∷ missing ∷ missing ∷ decimal (weight w) ∷ zeroText ∷ [])) (spell-readText text alone))
+
+  module _ {i size : ℕ} (e : placement gs ks w ≡ Placement.Kept i size) where
+    -- where it stands
+    kept-is : (keeps gs ks w ≡ true) × (indexBack gs w ≡ i) × (orbitSize gs w ≡ size)
+    kept-is = go (keeps gs ks w) refl e
+      where
+        go :
+            (b : Bool) → keeps gs ks w ≡ b → cond b (Placement.Kept (indexBack gs w) (orbitSize gs w)) Placement.Dropped ≡ Placement.Kept i size
+            → (keeps gs ks w ≡ true) × (indexBack gs w ≡ i) × (orbitSize gs w ≡ size)
+        go true t h = (t, cc, cc)
+        go false t h = let z : _≡_ {A = ℕ} 0 1 = cc in absurd (omega arith)
+
+    pub row-kept : row gs w ks ≡ text ++ rest (spell (least gs w) ∷ decimal i ∷ decimal size ∷ decimal (weight w) ∷ oneText ∷ [])
+    unfolding row
+    row-kept =
+        let (t, index, orbit) = kept-is in
+        rw (t, index, orbit) (joined-rest (spell w) (spell (least gs w) ∷ decimal i ∷ decimal size ∷ decimal (weight w) ∷ oneText ∷ [])
+        ∙ ap (λ (f : List ℕ). f ++ rest (spell (least gs w) ∷ decimal i ∷ decimal size ∷ decimal (weight w) ∷ oneText ∷ [])) (spell-readText text alone))
+
+    module _ {n : ℕ} (valid : Valid n gs) (long : length text ≡ n) (few : n ≤ maxSites) where
+      -- the bytes of the least word are accepted, and its letters come back from them
+      pub kept-word : {bytes : List ℕ} → bytes ≡ placementWord gs ks w → AcceptedWord planeLength n bytes × (decode planeLength n bytes ≡ least gs w)
+      kept-word {bytes} m =
+          let size : length (least gs w) ≡ n = least-length valid w ∙ length-map text letter ∙ long in
+          let short : length (least gs w) ≤ 8 * planeLength = omega arith in
+          let (t, index, orbit) = kept-is in
+          let same : bytes ≡ encode planeLength (least gs w) = m ∙ rw t refl in (
+            rw (same, sym size) (encode-accepted planeLength (least gs w) short),
+            ap₂ (decode planeLength) (sym size) same ∙ decode-encode planeLength (least gs w) short,
+          )
+
+      pub kept-small : orderOf gs ≤ maxOrder → (i < 10000000) × (size < 10000000)
+      unfolding orbitSize
+      kept-small small =
+          let (t, index, orbit) = kept-is in
+          (omega (arith, index, back-below valid w), omega (arith, orbit, div-le-self (orderOf gs) (length (fixing gs w))))
+
+-- ---- a value line that breaks no rule
+
+-- the first of three; `&list[0..k]` denotes them
+pub three-taken : (k : ℕ) (x y z : ℤ) → k ≤ 3 → length (take (k - 0) (x ∷ y ∷ z ∷ [])) ≡ k
+three-taken k x y z h = length-take-le (k - 0) (x ∷ y ∷ z ∷ []) (omega arith) ∙ sub-zero k
+
+modes-taken :
+    (k : ℕ) (p q r : List ℕ) → k ≤ 3 → every isMode (take k (p ∷ q ∷ r ∷ [])) ≡ true
+    → take k (modeOrZero p ∷ modeOrZero q ∷ modeOrZero r ∷ []) ≡ map modeOf (take k (p ∷ q ∷ r ∷ []))
+unfolding every
+modes-taken zero p q r h e = refl
+modes-taken (suc zero) p q r h e = let x = and-eq-true-iff (isMode p) true .0 e in simp (x .0)
+modes-taken (suc (suc zero)) p q r h e =
+    let x = and-eq-true-iff (isMode p) _ .0 e in
+    let y = and-eq-true-iff (isMode q) true .0 (x .1) in
+    simp (x .0, y .0)
+modes-taken (suc (suc (suc zero))) p q r h e =
+    let x = and-eq-true-iff (isMode p) _ .0 e in
+    let y = and-eq-true-iff (isMode q) _ .0 (x .1) in
+    let z = and-eq-true-iff (isMode r) true .0 (y .1) in
+    simp (x .0, y .0, z .0)
+modes-taken (suc (suc (suc (suc k)))) p q r h e = absurd (omega arith)
+
+module _ (used sites : ℕ) (line : List ℕ) (fine : verdict (valueChecks used sites line 0) ≡ answer tt) where
+  pub checked :
+      (fourFields line ≡ true) × (firstPass isMode used (drop 1 (fields line)) ≡ true) × (lettersAlone (field 0 line) ≡ true)
+      × (length (field 0 line) ≡ sites)
+  checked =
+      let f = field 0 line in
+      let (a, more) =
+      verdict-fine (atLine 31 (not (fourFields line && firstPass isMode used (drop 1 (fields line)))) 0) (letterChecks sites f 0) fine
+      in
+      let (b, last) =
+      verdict-fine (atLine 28 (ltb maxSites (length f)) 0) (atLine 29 (not (lettersAlone f)) 0 ∷ atLine 16 (not (eqb (length f) sites)) 0 ∷ []) more
+      in
+      let (c, end) = verdict-fine (atLine 29 (not (lettersAlone f)) 0) (atLine 16 (not (eqb (length f) sites)) 0 ∷ []) last in
+      let (d, none) = verdict-fine (atLine 16 (not (eqb (length f) sites)) 0) [] end in
+      let both = and-eq-true-iff (fourFields line) (firstPass isMode used (drop 1 (fields line))) .0 (not-false _ a) in
+      (both .0, both .1, not-false (lettersAlone f) c, eqb-true (length f) sites (not-false (eqb (length f) sites) d))
+
+  pub line-not-other : fieldsRead line ≡ Fields.Other → ⊥
+  line-not-other e =
+      let z : _≡_ {A = ℕ} 0 1 = (let f = sym (parts-read line _ _ _ (four-parts line (checked .0))) ∙ e in cc) in
+      omega arith
+
+  module _ {a b c : ℕ} (told : fieldsRead line ≡ Fields.Four a b c) where
+    pub line-parts : FourParts line a b c
+    line-parts =
+        let f = sym (parts-read line _ _ _ (four-parts line (checked .0))) ∙ told in
+        let x : fieldLength line 0 ≡ a = cc in
+        let second : ℕ = fieldLength line 0 + 1 + fieldLength line 1 in
+        let third : ℕ = fieldLength line 0 + 1 + fieldLength line 1 + 1 + fieldLength line 2 in
+        let y : second ≡ b = cc in
+        let z : third ≡ c = cc in
+        subst (FourParts line a b) z
+        (subst (λ (k : ℕ). FourParts line a k third) y (subst (λ (k : ℕ). FourParts line k second third) x (four-parts line (checked .0))))
+
+    -- the word: what `&line[0..a]` denotes
+    abbrev first : List ℕ
+    first = take (a - 0) line
+
+    first-field : field 0 line ≡ first
+    first-field = ap (λ (ps : List (List ℕ)). getD ps 0 []) (line-parts .parts) ∙ ap (λ (k : ℕ). take k line) (sym (sub-zero a))
+
+    pub line-letters : lettersAlone first ≡ true
+    line-letters = ap lettersAlone (sym first-field) ∙ checked .2
+
+    pub line-long : length first ≡ sites
+    line-long = ap length (sym first-field) ∙ checked .3
+
+    -- the row fits where four times the line and its end fit
+    pub line-room : (at k : ℕ) → at + 4 * (length line + 1) ≤ k → at + (2 * length first + 28) ≤ k
+    line-room at k h =
+        let p = line-parts in
+        omega (arith, length-take-le (a - 0) line (omega (arith, p .second, p .third, p .fourth)), p .second, p .third, p .fourth)
+
+    -- the modes that are used, and the row
+    module _ (few : used ≤ 3) {x y z : ℤ} (ex : x ≡ modeOrZero (part (a + 1) b line)) (ey : y ≡ modeOrZero (part (b + 1) c line))
+        (ez : z ≡ modeOrZero (part (c + 1) (length line) line)) where
+      abbrev given : List ℤ
+      given = take (used - 0) (x ∷ y ∷ z ∷ [])
+
+      line-modes : given ≡ map modeOf (take used (drop 1 (fields line)))
+      unfolding firstPass
+      line-modes =
+          let e : drop 1 (fields line) ≡ part (a + 1) b line ∷ part (b + 1) c line ∷ part (c + 1) (length line) line ∷ [] =
+          ap (drop 1) (line-parts .parts)
+          in
+          let texts : List (List ℕ) = drop 1 (fields line) in
+          let passes : every isMode (take used texts) ≡ true =
+          and-eq-true-iff (every isMode (take used texts)) (every (sameText zeroText) (drop used texts)) .0 (checked .1) .0
+          in
+          ap (λ (k : ℕ). take k (x ∷ y ∷ z ∷ [])) (sub-zero used)
+          ∙ rw (ex, ey, ez) (modes-taken used _ _ _ few (ap (λ (ps : List (List ℕ)). every isMode (take used ps)) (sym e) ∙ passes))
+          ∙ ap (λ (ps : List (List ℕ)). map modeOf (take used ps)) (sym e)
+
+      pub line-row : (gs : List Generator) → row gs (readText first) given ≡ lineRow used gs line
+      unfolding lineRow
+      line-row gs = ap₂ (λ (f : List ℕ) (ks : List ℤ). row gs (readText f) ks) (sym first-field) line-modes

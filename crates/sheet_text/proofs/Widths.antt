@@ -1,0 +1,80 @@
+-- How long rows are: a row of n letters has at most 2 n + 28 bytes, and so at most four times those of its line.
+-- What carries it: an index, an orbit size and a weight have at most 7 digits (`decimal-short`).
+use Prim.Native.Nat.{ℕ, suc, _+_, _-_, _*_, _/_, _≤_, _<_}
+use mathlib.Core.Path.{_≡_, refl, sym, ap, _∙_}
+use mathlib.Core.Bool.{Bool, true, false, cond}
+use mathlib.Core.List.{List, [], _∷_, _++_, map}
+use native.Mathlib.Nat.{div-le-self}
+use native.Mathlib.Omega.{arith}
+use lib.IntN.{ℤ}
+use lib.ListN.{length, take, drop, length-append, length-map}
+use Rattle.pauli_word.specs.Word.{Word, weight}
+use Rattle.pauli_word.specs.Outcome.{answer, verdict}
+use Rattle.pauli_word.specs.Text.{glyph, letter, readText, spell}
+use Rattle.action.specs.Permutation.{Generator, Valid}
+use Rattle.action.specs.Index.{orderOf}
+use Rattle.action.specs.Orbit.{least, indexBack, fixing, orbitSize}
+use Rattle.action.specs.Sector.{keeps}
+use Rattle.action.proofs.Canonical.{least-length, back-below}
+use Rattle.permutation.specs.Limits.{maxOrder}
+use Rattle.text.specs.Text.{decimal, modeOf}
+use Rattle.text.proofs.Pieces.{four-parts}
+use Rattle.text.proofs.Decimals.{decimal-short}
+use Rattle.sheet_text.specs.Sheet.{zeroText, oneText, missing, fields, field, valueChecks, joined, row, lineRow}
+use Rattle.sheet_text.proofs.Rows.{weight-small, checked}
+
+-- six fields in a line
+six : (a b c d e f : List ℕ) → length (joined (a ∷ b ∷ c ∷ d ∷ e ∷ f ∷ [])) ≡ length a + length b + length c + length d + length e + length f + 6
+unfolding joined
+six a b c d e f = simp length-append (omega arith)
+
+module _ {n : ℕ} {gs : List Generator} (valid : Valid n gs) (small : orderOf gs ≤ maxOrder) (w : Word) (long : length w ≡ n) (few : n ≤ 256) where
+  index-small : indexBack gs w < 10000000
+  index-small = omega (arith, back-below valid w)
+
+  size-small : orbitSize gs w < 10000000
+  unfolding orbitSize
+  size-small = omega (arith, div-le-self (orderOf gs) (length (fixing gs w)))
+
+  weight-few : weight w < 10000000
+  weight-few = omega (arith, weight-small w)
+
+  pub row-short : (ks : List ℤ) → length (row gs w ks) ≤ 2 * n + 28
+  unfolding row
+  row-short ks = go (keeps gs ks w)
+    where
+      spelled : (v : Word) → length (spell v) ≡ length v
+      spelled v = length-map v glyph
+
+      go : (b : Bool)
+          → length (joined (cond b
+          (spell w ∷ spell (least gs w) ∷ decimal (indexBack gs w) ∷ decimal (orbitSize gs w) ∷ decimal (weight w) ∷ oneText ∷ [])
+          (spell w ∷ missing ∷ missing ∷ missing ∷ decimal (weight w) ∷ zeroText ∷ [])))
+          ≤ 2 * n + 28
+      go true =
+          rw (six (spell w) (spell (least gs w)) (decimal (indexBack gs w)) (decimal (orbitSize gs w)) (decimal (weight w)) oneText)
+          (omega (
+            arith,
+            spelled w,
+            spelled (least gs w),
+            least-length valid w,
+            decimal-short (indexBack gs w) index-small,
+            decimal-short (orbitSize gs w) size-small,
+            decimal-short (weight w) weight-few,
+          ))
+      go false =
+          rw (six (spell w) missing missing missing (decimal (weight w)) zeroText)
+          (omega (arith, spelled w, decimal-short (weight w) weight-few))
+
+-- a value line that breaks no rule, in a group of order within the limit
+module _ {n : ℕ} {gs : List Generator} (valid : Valid n gs) (small : orderOf gs ≤ maxOrder) (few : n ≤ 256) (used : ℕ) (line : List ℕ)
+    (fine : verdict (valueChecks used n line 0) ≡ answer tt) where
+  pub lineRow-short : length (lineRow used gs line) ≤ 4 * (length line + 1)
+  unfolding lineRow
+  lineRow-short =
+      let (four, modes, letters, long) = checked used n line fine in
+      let p = four-parts line four in
+      let w : Word = readText (field 0 line) in
+      let same : length w ≡ n = length-map (field 0 line) letter ∙ long in
+      let short = row-short valid small w same few (map modeOf (take used (drop 1 (fields line)))) in
+      omega (arith, short, long, p .second, p .third, p .fourth)

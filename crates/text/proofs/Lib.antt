@@ -1,0 +1,6 @@
+-- The laws of texts: `Pieces` of texts that are the same, the pieces of a text and the fields of a line; `Numbers` of digits, numbers read up to a cap,
+-- and modes; `Puts` of a text written into a list; `Decimals` of a number's digits.
+pub mod Pieces
+pub mod Numbers
+pub mod Puts
+pub mod Decimals

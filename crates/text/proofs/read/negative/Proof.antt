@@ -1,0 +1,85 @@
+-- `read::negative` meets its contract: the bytes after the minus are what is read (`rest-part`), and a value below the cap is their number.
+use Prim.Native.Nat.{min}
+use mathlib.Core.Path.{sym, ap, _∙_}
+use native.Mathlib.Omega.{arith}
+use borrow.Author.Needs.{needs}
+use borrow.Author.Tests.{not-true, not-false}
+use denote.Ref.{now}
+use Rattle.pauli_word.proofs.Words.{rest-part}
+use Rattle.text.specs.Text.{isNumber, numberOf}
+use Rattle.text.specs.Parts.{cap}
+use Rattle.text.specs.declared.read.Mode.the-variants as Mode
+use Rattle.text.proofs.Numbers.{minus-no-number, minus-zero, minus-large, minus-value, less-fits, narrow-fits, negated}
+use Rattle.text.proofs.read.negative.Statement.{statement}
+use Rattle.text.proofs.read.negative.Tie as tie
+
+sub-digits : tie.Need-sub-digits
+sub-digits c = search needs
+
+part-digits-start : tie.Need-part-digits-start
+part-digits-start c = search needs
+
+part-digits-end : tie.Need-part-digits-end
+part-digits-end c = search needs
+
+is-number-requires : tie.Need-is-number-requires
+is-number-requires c κs = search needs
+
+returns : tie.Need-returns
+returns c =
+    let s = c .before .before .before .before in
+    let t = now (s .args .text) in
+    sym (minus-no-number t (s .pre .0) (s .pre .1) (ap isNumber (sym (rest-part 1 t)) ∙ sym (c .before .is-number .ensures) ∙ not-true _ (c .if1 .taken)))
+
+value-requires : tie.Need-value-requires
+value-requires c κs = search needs
+
+returns-2 : tie.Need-returns-2
+returns-2 c =
+    let s = c .before .before .before .before .before .before in
+    let t = now (s .args .text) in
+    let v = c .before .value in
+    sym (minus-zero t (s .pre .0) (s .pre .1) (v .result) (v .ensures ∙ ap (λ b. min (numberOf b) cap) (rest-part 1 t)) (c .if2 .taken))
+
+cast-t10 : tie.Need-cast-t10
+cast-t10 c = search needs
+
+sub-t11 : tie.Need-sub-t11
+sub-t11 c = less-fits (c .before .before .value .result) (omega arith) (c .if3 .taken)
+
+cast-t12 : tie.Need-cast-t12
+cast-t12 c = narrow-fits (c .before .before .value .result) (omega arith) (c .if3 .taken)
+
+returns-3 : tie.Need-returns-3
+returns-3 c =
+    let s = c .before .before .before .before .before .before .before in
+    let t = now (s .args .text) in
+    let v = c .before .before .value in
+    let e = v .ensures ∙ ap (λ b. min (numberOf b) cap) (rest-part 1 t) in
+    let told = sym (c .before .before .before .before .is-number .ensures) ∙ not-false _ (c .before .before .before .if1 .left) in
+    ap Mode.Value (negated (v .result) (omega arith) (c .if3 .taken))
+    ∙ minus-value t (s .pre .0) (s .pre .1) (v .result) e (ap isNumber (sym (rest-part 1 t)) ∙ told) (omega arith) (c .if3 .taken)
+
+returns-4 : tie.Need-returns-4
+returns-4 c =
+    let s = c .before .before .before .before .before .before .before in
+    let t = now (s .args .text) in
+    let v = c .before .before .value in
+    sym (minus-large t (s .pre .0) (s .pre .1) (v .result) (v .ensures ∙ ap (λ b. min (numberOf b) cap) (rest-part 1 t)) (c .if3 .left))
+
+pub negative-spec : {M : Type 1} → statement M
+negative-spec =
+    tie.close
+    (tie.spec
+    sub-digits
+    part-digits-start
+    part-digits-end
+    is-number-requires
+    returns
+    value-requires
+    returns-2
+    cast-t10
+    sub-t11
+    cast-t12
+    returns-3
+    returns-4)

@@ -1,0 +1,96 @@
+-- Texts as lists of bytes: their pieces, and decimal numbers read and written.
+use Prim.Native.Nat.{ℕ, zero, suc, _+_, _-_, _*_, _/_, _%_}
+use mathlib.Core.Bool.{Bool, true, false, _&&_, not, cond}
+use mathlib.Core.List.{List, [], _∷_, _++_}
+use lib.Dec.{eqb, leb, ltb}
+use lib.IntN.{ℤ, pos, negsuc}
+use lib.ListN.{length, take, drop}
+use Rattle.action.specs.Lists.{every}
+
+-- ---- bytes by their names
+
+abbrev pub lineEnd : ℕ
+lineEnd = 10
+
+abbrev pub space : ℕ
+space = 32
+
+abbrev pub minus : ℕ
+minus = 45
+
+abbrev pub zeroDigit : ℕ
+zeroDigit = 48
+
+-- ---- pieces
+
+-- whether two texts are the same
+unfoldable pub sameText : List ℕ → List ℕ → Bool
+sameText [] [] = true
+sameText [] (b ∷ bs) = false
+sameText (a ∷ xs) [] = false
+sameText (a ∷ xs) (b ∷ bs) = eqb a b && sameText xs bs
+
+-- the bytes before the first c, or all
+unfoldable pub before : ℕ → List ℕ → List ℕ
+before c [] = []
+before c (b ∷ bs) = let r = b ∷ before c bs in cond (eqb b c) [] r
+
+-- one byte more at the front of the first piece
+abbrev pub extended : ℕ → List (List ℕ) → List (List ℕ)
+extended b [] = []
+extended b (p ∷ ps) = (b ∷ p) ∷ ps
+
+-- the pieces of a text that the bytes c part: one more than there are such bytes
+unfoldable pub pieces : ℕ → List ℕ → List (List ℕ)
+pieces c [] = [] ∷ []
+pieces c (b ∷ bs) = let ps = pieces c bs in cond (eqb b c) ([] ∷ ps) (extended b ps)
+
+-- ---- numbers
+
+abbrev pub isDigit : ℕ → Bool
+isDigit b = leb 48 b && leb b 57
+
+-- a number in decimal, without leading zeros
+unfoldable pub isNumber : List ℕ → Bool
+unfolding every
+isNumber [] = false
+isNumber (b ∷ []) = isDigit b
+isNumber (b ∷ c ∷ bs) = isDigit b && not (eqb b zeroDigit) && every isDigit (c ∷ bs)
+
+-- a read so far, and the digits that follow
+unfoldable pub readOn : ℕ → List ℕ → ℕ
+readOn a [] = a
+readOn a (b ∷ bs) = readOn (10 * a + (b - zeroDigit)) bs
+
+-- the number that a text writes
+unfoldable pub numberOf : List ℕ → ℕ
+unfolding readOn
+numberOf bs = readOn 0 bs
+
+-- a mode: a number of 32 bits with a sign, an optional minus before it, which 0 has not
+unfoldable pub isMode : List ℕ → Bool
+unfolding isNumber numberOf
+isMode [] = false
+isMode (b ∷ bs) =
+    cond (eqb b minus) (isNumber bs && not (eqb (numberOf bs) 0) && leb (numberOf bs) 2147483648) (isNumber (b ∷ bs) && ltb (numberOf (b ∷ bs)) 2147483648)
+
+-- the mode that a text writes
+unfoldable pub modeOf : List ℕ → ℤ
+unfolding numberOf
+modeOf [] = pos 0
+modeOf (b ∷ bs) = cond (eqb b minus) (negsuc (numberOf bs - 1)) (pos (numberOf (b ∷ bs)))
+
+-- the digits of a number, most significant first; the first argument bounds how many
+unfoldable pub digitsOf : ℕ → ℕ → List ℕ
+digitsOf zero n = []
+digitsOf (suc f) n = let r = digitsOf f (n / 10) ++ ((zeroDigit + n % 10) ∷ []) in cond (ltb n 10) ((zeroDigit + n) ∷ []) r
+
+-- a number in decimal, of at most 20 digits
+unfoldable pub decimal : ℕ → List ℕ
+unfolding digitsOf
+decimal n = digitsOf 20 n
+
+-- ---- a text written into a list from a place on; the rest stays
+
+unfoldable pub put : ℕ → List ℕ → List ℕ → List ℕ
+put at text list = take at list ++ (text ++ drop (at + length text) list)
