@@ -14,11 +14,11 @@ use native.Mathlib.Decide.{decLe}
 use borrow.Author.Tests.{lt-ltb, le-ltb}
 use Rattle.text.specs.Text.{zeroDigit, digitsOf, decimal}
 
-digits-one : (f n : ℕ) → n < 10 → digitsOf (suc f) n ≡ (zeroDigit + n) ∷ []
+pub digits-one : (f n : ℕ) → n < 10 → digitsOf (suc f) n ≡ (zeroDigit + n) ∷ []
 unfolding digitsOf
 digits-one f n h = rw (lt-ltb n 10 h)
 
-digits-more : (f n : ℕ) → 10 ≤ n → digitsOf (suc f) n ≡ digitsOf f (n / 10) ++ ((zeroDigit + n % 10) ∷ [])
+pub digits-more : (f n : ℕ) → 10 ≤ n → digitsOf (suc f) n ≡ digitsOf f (n / 10) ++ ((zeroDigit + n % 10) ∷ [])
 unfolding digitsOf
 digits-more f n h = rw (le-ltb n 10 h)
 
