@@ -2,11 +2,9 @@
 // after a refusal.
 use crate::cycles;
 use crate::cycles::Cycles;
-use generators::GroupRefusal;
 use group::Group;
 use group::Grouped;
-use group::Lattice;
-use group::LatticeMade;
+use group::Made;
 use group::Step;
 use group::Walk;
 use lines::answers;
@@ -116,20 +114,20 @@ pub fn lattices() {
     show(b"torus_3d 6 7 7", group::torus_3d(6, 7, 7));
 }
 
-fn show(name: &[u8], made: LatticeMade) {
+fn show(name: &[u8], made: Made) {
     lines::text(name);
     lines::text(b": ");
     let answer = made.answer;
     let lattice = made.group;
     match answer {
-        Lattice::Accepted => {
+        Verdict::Accepted => {
             lines::text(b"order ");
             answers::number_on(group::order(lattice));
             lines::text(b", phase modulus ");
             answers::number(group::phase_modulus(lattice));
         }
-        Lattice::ZeroSide => lines::refused(26),
-        Lattice::SidesTooLarge => lines::refused(27),
+        Verdict::Refused(Refusal::ZeroSide) => lines::refused(26),
+        Verdict::Refused(Refusal::SidesTooLarge) => lines::refused(27),
     }
 }
 
@@ -368,13 +366,13 @@ fn make(name: &[u8], sites: usize, list: &[u32], orders: &[u32]) {
     report(answer, value);
 }
 
-fn report(answer: Grouped, made: Group) {
+fn report(answer: Verdict, made: Group) {
     match answer {
-        Grouped::Accepted => {
+        Verdict::Accepted => {
             lines::text(b"order ");
             answers::number(group::order(made));
         }
-        Grouped::Refused(why) => {
+        Verdict::Refused(why) => {
             refusal(why);
             lines::text(b"; the value beside it: ");
             answers::number(group::order(made));
@@ -382,26 +380,26 @@ fn report(answer: Grouped, made: Group) {
     }
 }
 
-fn refusal(why: GroupRefusal) {
+fn refusal(why: Refusal) {
     match why {
-        GroupRefusal::TooManySites => answers::one(1),
-        GroupRefusal::ListEndsInside => answers::one(2),
-        GroupRefusal::TooManyGenerators => answers::one(3),
-        GroupRefusal::LengthMismatch(perms, orders) => three(4, perms, orders),
-        GroupRefusal::PermutationLength(g, len) => three(5, g, len),
-        GroupRefusal::TargetOutOfRange(g, t) => three(6, g, t as usize),
-        GroupRefusal::DuplicateTarget(g, t) => three(7, g, t as usize),
-        GroupRefusal::ZeroOrder(g) => two(8, g),
-        GroupRefusal::PermutationOrderOverflow(g) => two(9, g),
-        GroupRefusal::OrderMismatch(g, declared, exact) => four(
+        Refusal::TooManySites => answers::one(1),
+        Refusal::ListEndsInside => answers::one(2),
+        Refusal::TooManyGenerators => answers::one(3),
+        Refusal::LengthMismatch(perms, orders) => three(4, perms, orders),
+        Refusal::PermutationLength(g, len) => three(5, g, len),
+        Refusal::TargetOutOfRange(g, t) => three(6, g, t as usize),
+        Refusal::DuplicateTarget(g, t) => three(7, g, t as usize),
+        Refusal::ZeroOrder(g) => two(8, g),
+        Refusal::PermutationOrderOverflow(g) => two(9, g),
+        Refusal::OrderMismatch(g, declared, exact) => four(
             10,
             g,
             declared as usize,
             exact as usize,
         ),
-        GroupRefusal::NonCommuting(left, right) => three(11, left, right),
-        GroupRefusal::GroupOrderOverflow => answers::one(12),
-        GroupRefusal::GroupOrderLimit => answers::one(13),
+        Refusal::NonCommuting(left, right) => three(11, left, right),
+        Refusal::GroupOrderOverflow => answers::one(12),
+        Refusal::GroupOrderLimit => answers::one(13),
     }
 }
 

@@ -1,9 +1,5 @@
 // Words: texts good and bad, the limits of their length, refused words, the order.
 use pauli_word::Ordering;
-use pauli_word::Read;
-use pauli_word::Spelled;
-use pauli_word::Weighed;
-use pauli_word::WordRefusal;
 
 // Texts with their letters and weights, and texts with a letter that is none.
 pub fn texts() {
@@ -68,13 +64,13 @@ fn read(text: &[u8]) {
     let answer = r.answer;
     let word = r.word;
     match answer {
-        Read::Sites(n) => {
+        Number::Value(n) => {
             spell_on(n, &word);
             lines::text(b", ");
             weigh_on(n, &word);
         }
-        Read::TooManyLetters => lines::refused(28),
-        Read::NotALetter(at) => lines::refused_at(29, at),
+        Number::Refused(Refusal::TooManyLetters) => lines::refused(28),
+        Number::Refused(Refusal::NotALetter(at)) => lines::refused_at(29, at),
     }
 }
 
@@ -87,9 +83,9 @@ fn read_length(text: &[u8]) {
     let answer = r.answer;
     let word = r.word;
     match answer {
-        Read::Sites(n) => weigh_on(n, &word),
-        Read::TooManyLetters => lines::refused(28),
-        Read::NotALetter(at) => lines::refused_at(29, at),
+        Number::Value(n) => weigh_on(n, &word),
+        Number::Refused(Refusal::TooManyLetters) => lines::refused(28),
+        Number::Refused(Refusal::NotALetter(at)) => lines::refused_at(29, at),
     }
 }
 
@@ -118,8 +114,8 @@ fn spell_on(n: usize, word: &[u8]) {
     let answer = r.answer;
     let text = r.text;
     match answer {
-        Spelled::Letters(k) => lines::first(&text, k),
-        Spelled::Refused(why) => {
+        Number::Value(k) => lines::first(&text, k),
+        Number::Refused(why) => {
             lines::text(b"refused ");
             lines::number(rule(why));
         }
@@ -128,20 +124,20 @@ fn spell_on(n: usize, word: &[u8]) {
 
 fn weigh_on(n: usize, word: &[u8]) {
     match pauli_word::weight(n, word) {
-        Weighed::Weight(k) => {
+        Number::Value(k) => {
             lines::text(b"weight ");
             lines::number(k);
             lines::text(b"\n");
         }
-        Weighed::Refused(why) => lines::refused(rule(why)),
+        Number::Refused(why) => lines::refused(rule(why)),
     }
 }
 
-fn rule(why: WordRefusal) -> usize {
+fn rule(why: Refusal) -> usize {
     match why {
-        WordRefusal::TooManySites => 1,
-        WordRefusal::WordLength => 15,
-        WordRefusal::BitAboveSites => 17,
+        Refusal::TooManySites => 1,
+        Refusal::WordLength => 15,
+        Refusal::BitAboveSites => 17,
     }
 }
 

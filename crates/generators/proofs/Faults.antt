@@ -7,7 +7,7 @@ use mathlib.Core.List.{List, [], _∷_}
 use lib.Dec.{ltb}
 use lib.ListN.{length}
 use borrow.Author.Tests.{eq-eqb, ne-eqb, lt-ltb, le-ltb}
-use Rattle.pauli_word.specs.Outcome.{refused, answer, verdict}
+use Rattle.outcome.specs.Outcome.{refused, answer, verdict}
 use Rattle.action.specs.Permutation.{exactOrder}
 use Rattle.permutation.specs.declared.inner.TargetFault.{TargetFault}
 use Rattle.permutation.specs.declared.inner.ExactOrder.the-variants as ExactOrder

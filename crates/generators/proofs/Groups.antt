@@ -13,7 +13,7 @@ use lib.ListN.{length, getD, take, drop, length-append, length-take, length-drop
 use lib.Seq.{take-at, drop-at, take-take, take-add, drop-drop, drop-append-add, drop-append-seam, take-append-seam, length-take-le, ext-getD}
 use borrow.Author.Tests.{ltb-false, le-ltb, eqb-true, not-false}
 use Rattle.pauli_word.specs.Limits.{maxSites}
-use Rattle.pauli_word.specs.Outcome.{Outcome, refused, answer, Check, verdict}
+use Rattle.outcome.specs.Outcome.{Outcome, refused, answer, Check, verdict}
 use Rattle.action.specs.Lists.{from, below, Member}
 use Rattle.action.specs.Permutation.{Valid}
 use Rattle.action.specs.Index.{orderOf}

@@ -7,7 +7,7 @@ use mathlib.Core.List.{List}
 use lib.ListN.{take, drop}
 use borrow.Author.Tests.{lt-ltb, le-ltb}
 use Rattle.pauli_word.specs.Limits.{maxSites}
-use Rattle.pauli_word.specs.Outcome.{answer, verdict}
+use Rattle.outcome.specs.Outcome.{answer, verdict}
 use Rattle.permutation.specs.Limits.{maxGenerators}
 use Rattle.permutation.specs.Generators.{permsCheck, groupChecks, rowsOf}
 use Rattle.generators.specs.Tables.{answers, zeros, restsClear, unusedClear, holdGroup}

@@ -10,7 +10,7 @@ use native.Mathlib.Omega.{arith}
 use lib.ListN.{length, getD, take, drop, length-drop}
 use lib.Seq.{length-take-le, drop-cons, getD-take, drop-drop, take-nil}
 use Rattle.pauli_word.specs.Limits.{maxSites}
-use Rattle.pauli_word.specs.Outcome.{Check}
+use Rattle.outcome.specs.Outcome.{Check}
 use Rattle.action.specs.Lists.{from, below, every}
 use Rattle.action.specs.Permutation.{Permutes}
 use Rattle.action.proofs.Order.{order-positive}

@@ -3,37 +3,37 @@
 use mathlib.Core.Path.{_≡_, refl, sym, ap, _∙_}
 use mathlib.Core.Bool.{Bool, true, false, cond, true≢false}
 use mathlib.Core.List.{List, [], _∷_}
-use Rattle.pauli_word.specs.Outcome.{Outcome, refused, answer, Check, verdict}
+use Rattle.outcome.specs.Outcome.{Outcome, refused, answer, Check, verdict}
 use Rattle.permutation.proofs.Rules.{verdict-fine}
-use Rattle.generators.specs.declared.GroupRefusal.{GroupRefusal}
-use Rattle.generators.specs.declared.GroupRefusal.the-variants as GroupRefusal
+use Rattle.outcome.specs.declared.Refusal.{Refusal}
+use Rattle.outcome.specs.declared.Refusal.the-variants as Refusal
 use Rattle.generators.specs.Tables.{answers}
-use Rattle.generators.specs.Parts.{groupRefusalOf}
+use Rattle.generators.specs.Parts.{refusalOf}
 
 -- what a check comes to alone
 abbrev pub alone : Check → Outcome (Unit {0})
 alone check = verdict (check ∷ [])
 
-pub refusal-no-answer : (why : GroupRefusal) → answers (groupRefusalOf {A = Unit {0}} why) ≡ false
-refusal-no-answer GroupRefusal.TooManySites = refl
-refusal-no-answer GroupRefusal.ListEndsInside = refl
-refusal-no-answer GroupRefusal.TooManyGenerators = refl
-refusal-no-answer (GroupRefusal.LengthMismatch perms orders) = refl
-refusal-no-answer (GroupRefusal.PermutationLength i len) = refl
-refusal-no-answer (GroupRefusal.TargetOutOfRange i target) = refl
-refusal-no-answer (GroupRefusal.DuplicateTarget i target) = refl
-refusal-no-answer (GroupRefusal.ZeroOrder i) = refl
-refusal-no-answer (GroupRefusal.PermutationOrderOverflow i) = refl
-refusal-no-answer (GroupRefusal.OrderMismatch i declared exact) = refl
-refusal-no-answer (GroupRefusal.NonCommuting left right) = refl
-refusal-no-answer GroupRefusal.GroupOrderOverflow = refl
-refusal-no-answer GroupRefusal.GroupOrderLimit = refl
+pub refusal-no-answer : (why : Refusal) → answers (refusalOf {A = Unit {0}} why) ≡ false
+refusal-no-answer Refusal.TooManySites = refl
+refusal-no-answer Refusal.ListEndsInside = refl
+refusal-no-answer Refusal.TooManyGenerators = refl
+refusal-no-answer (Refusal.LengthMismatch perms orders) = refl
+refusal-no-answer (Refusal.PermutationLength i len) = refl
+refusal-no-answer (Refusal.TargetOutOfRange i target) = refl
+refusal-no-answer (Refusal.DuplicateTarget i target) = refl
+refusal-no-answer (Refusal.ZeroOrder i) = refl
+refusal-no-answer (Refusal.PermutationOrderOverflow i) = refl
+refusal-no-answer (Refusal.OrderMismatch i declared exact) = refl
+refusal-no-answer (Refusal.NonCommuting left right) = refl
+refusal-no-answer Refusal.GroupOrderOverflow = refl
+refusal-no-answer Refusal.GroupOrderLimit = refl
 
-pub refusal-apart : (why : GroupRefusal) → groupRefusalOf why ≡ answer (tt {0}) → ⊥
+pub refusal-apart : (why : Refusal) → refusalOf why ≡ answer (tt {0}) → ⊥
 refusal-apart why e = true≢false (sym (ap answers e) ∙ refusal-no-answer why)
 
 module _ (check : Check) where
-  pub refused-broken : (why : GroupRefusal) → groupRefusalOf why ≡ alone check → check .broken ≡ true
+  pub refused-broken : (why : Refusal) → refusalOf why ≡ alone check → check .broken ≡ true
   refused-broken why e = go (check .broken) (sym (refusal-no-answer why) ∙ ap answers e)
     where
       go : (b : Bool) → false ≡ answers (cond b (refused (check .number) (check .values)) (answer (tt {0}))) → b ≡ true

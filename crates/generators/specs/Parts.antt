@@ -5,10 +5,10 @@ use mathlib.Core.List.{List, [], _∷_}
 use lib.Dec.{ltb}
 use lib.ListN.{length}
 use Rattle.pauli_word.specs.Limits.{maxSites}
-use Rattle.pauli_word.specs.Outcome.{Outcome, refused, answer}
+use Rattle.outcome.specs.Outcome.{Outcome, refused, answer}
 use Rattle.permutation.specs.Generators.{endsInside, permsOf}
-use Rattle.generators.specs.declared.GroupRefusal.{GroupRefusal}
-use Rattle.generators.specs.declared.GroupRefusal.the-variants as GroupRefusal
+use Rattle.outcome.specs.declared.Refusal.{Refusal}
+use Rattle.outcome.specs.declared.Refusal.the-variants as Refusal
 use Rattle.generators.specs.declared.list.Scan.{Scan}
 use Rattle.generators.specs.declared.list.Scan.the-variants as Scan
 use Rattle.generators.specs.declared.list.Checked.{Checked}
@@ -21,25 +21,25 @@ unfoldable pub scanOutcome : List ℕ → Scan
 scanOutcome list = cond (endsInside list) Scan.EndsInside (Scan.Count (length (permsOf list)))
 
 -- a refusal of generators, by its rule's number and values
-abbrev pub groupRefusalOf : {A : Type 0} → GroupRefusal → Outcome A
-groupRefusalOf GroupRefusal.TooManySites = refused 1 []
-groupRefusalOf GroupRefusal.ListEndsInside = refused 2 []
-groupRefusalOf GroupRefusal.TooManyGenerators = refused 3 []
-groupRefusalOf (GroupRefusal.LengthMismatch perms orders) = refused 4 (perms ∷ orders ∷ [])
-groupRefusalOf (GroupRefusal.PermutationLength i len) = refused 5 (i ∷ len ∷ [])
-groupRefusalOf (GroupRefusal.TargetOutOfRange i target) = refused 6 (i ∷ target ∷ [])
-groupRefusalOf (GroupRefusal.DuplicateTarget i target) = refused 7 (i ∷ target ∷ [])
-groupRefusalOf (GroupRefusal.ZeroOrder i) = refused 8 (i ∷ [])
-groupRefusalOf (GroupRefusal.PermutationOrderOverflow i) = refused 9 (i ∷ [])
-groupRefusalOf (GroupRefusal.OrderMismatch i declared exact) = refused 10 (i ∷ declared ∷ exact ∷ [])
-groupRefusalOf (GroupRefusal.NonCommuting left right) = refused 11 (left ∷ right ∷ [])
-groupRefusalOf GroupRefusal.GroupOrderOverflow = refused 12 []
-groupRefusalOf GroupRefusal.GroupOrderLimit = refused 13 []
+abbrev pub refusalOf : {A : Type 0} → Refusal → Outcome A
+refusalOf Refusal.TooManySites = refused 1 []
+refusalOf Refusal.ListEndsInside = refused 2 []
+refusalOf Refusal.TooManyGenerators = refused 3 []
+refusalOf (Refusal.LengthMismatch perms orders) = refused 4 (perms ∷ orders ∷ [])
+refusalOf (Refusal.PermutationLength i len) = refused 5 (i ∷ len ∷ [])
+refusalOf (Refusal.TargetOutOfRange i target) = refused 6 (i ∷ target ∷ [])
+refusalOf (Refusal.DuplicateTarget i target) = refused 7 (i ∷ target ∷ [])
+refusalOf (Refusal.ZeroOrder i) = refused 8 (i ∷ [])
+refusalOf (Refusal.PermutationOrderOverflow i) = refused 9 (i ∷ [])
+refusalOf (Refusal.OrderMismatch i declared exact) = refused 10 (i ∷ declared ∷ exact ∷ [])
+refusalOf (Refusal.NonCommuting left right) = refused 11 (left ∷ right ∷ [])
+refusalOf Refusal.GroupOrderOverflow = refused 12 []
+refusalOf Refusal.GroupOrderLimit = refused 13 []
 
 -- what a check of generators comes to
-abbrev pub verdictOfChecked : Checked → Outcome (Unit {0})
-verdictOfChecked Checked.Fine = answer tt
-verdictOfChecked (Checked.Broken why) = groupRefusalOf why
+abbrev pub outcomeOfVerdict : Checked → Outcome (Unit {0})
+outcomeOfVerdict Checked.Fine = answer tt
+outcomeOfVerdict (Checked.Broken why) = refusalOf why
 
 -- whether one of three sides is 0
 abbrev pub anyZero : ℕ → ℕ → ℕ → Bool

@@ -5,7 +5,7 @@ use mathlib.Core.List.{List, [], _∷_, _++_}
 use lib.Dec.{eqb}
 use lib.ListN.{length, take, drop, replicate}
 use Rattle.pauli_word.specs.Limits.{maxSites}
-use Rattle.pauli_word.specs.Outcome.{Outcome, refused, answer, verdict}
+use Rattle.outcome.specs.Outcome.{Outcome, refused, answer, verdict}
 use Rattle.action.specs.Lists.{below, every}
 use Rattle.permutation.specs.Limits.{targetPlaces}
 use Rattle.permutation.specs.Generators.{generatorCount, permsCheck, groupChecks, rowAt, rowsOf}

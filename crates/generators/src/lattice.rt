@@ -16,25 +16,25 @@ pub enum Sides {
 }
 
 // The sites of a lattice by its sides: their product, found without overflow.
-pub fn sites_of(a: usize, b: usize, c: usize) -> Sides
+pub fn sites_of(a: usize, b: usize, c: usize) -> Number
     ensures { λ r. ⌜ r ≡ sidesOutcome a b c ⌝ }
 {
     if a == 0 {
-        return Sides::Zero;
+        return Number::Refused(Refusal::ZeroSide);
     }
     if b == 0 {
-        return Sides::Zero;
+        return Number::Refused(Refusal::ZeroSide);
     }
     if c == 0 {
-        return Sides::Zero;
+        return Number::Refused(Refusal::ZeroSide);
     }
     if pauli_word::MAX_SITES / a < b {
-        return Sides::TooLarge;
+        return Number::Refused(Refusal::SidesTooLarge);
     }
     if pauli_word::MAX_SITES / (a * b) < c {
-        return Sides::TooLarge;
+        return Number::Refused(Refusal::SidesTooLarge);
     }
-    Sides::Sites(a * b * c)
+    Number::Value(a * b * c)
 }
 
 // Where a shift along an axis sends site q.

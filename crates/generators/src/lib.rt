@@ -6,7 +6,7 @@ pub mod list;
 pub mod tables;
 
 // Why generators are refused.
-pub enum GroupRefusal {
+pub enum Refusal {
     // 1: more than 256 sites.
     TooManySites,
     // 2: the list ends inside a generator.

@@ -6,12 +6,11 @@ ghost use mathlib.Core.List.{[], _∷_};
 ghost use Prim.Native.Nat.{_≤_};
 ghost use lib.ListN.{length, replicate};
 ghost use Rattle.pauli_word.specs.Limits.{maxSites};
-ghost use Rattle.pauli_word.specs.Outcome.{answer, verdict};
+ghost use Rattle.outcome.specs.Outcome.{answer, verdict};
 ghost use Rattle.permutation.specs.Limits.{targetPlaces, maxGenerators};
 ghost use Rattle.permutation.specs.Generators.{endsInside, permsOf, permCheck, permsCheck};
 ghost use Rattle.generators.specs.Tables.{placedAll};
-ghost use Rattle.generators.specs.Parts.{scanOutcome, verdictOfChecked};
-use crate::GroupRefusal;
+ghost use Rattle.generators.specs.Parts.{scanOutcome, outcomeOfVerdict};
 use pauli_word::MAX_SITES;
 use permutation::inner::TargetFault;
 
@@ -24,11 +23,11 @@ pub enum Scan {
 // What checks of generators come to.
 pub enum Checked {
     Fine,
-    Broken(GroupRefusal),
+    Broken(Refusal),
 }
 
 // Counts the generators of a list.
-pub fn count_generators(list: &[u32]) -> Scan
+pub fn count_generators(list: &[u32]) -> Number
     ensures { λ r. ⌜ r ≡ scanOutcome (now (list .entry)) ⌝ }
 {
     let mut at = 0;
@@ -37,12 +36,12 @@ pub fn count_generators(list: &[u32]) -> Scan
         let n = list[at] as usize;
         let rest = list.len() - at - 1;
         if rest < n {
-            return Scan::EndsInside;
+            return Number::Refused(Refusal::ListEndsInside);
         }
         at = at + 1 + n;
         count += 1;
     }
-    Scan::Count(count)
+    Number::Value(count)
 }
 
 // Copies src over dst.
@@ -58,20 +57,20 @@ pub fn copy(src: &[u32], dst: &mut [u32])
 }
 
 // The first fault of a generator, 5 to 7.
-pub fn fault(generator: usize, perm: &[u32], sites: usize) -> Checked
+pub fn fault(generator: usize, perm: &[u32], sites: usize) -> Verdict
     requires { ⌜ sites ≤ maxSites ⌝ }
-    ensures { λ r. ⌜ verdictOfChecked r ≡ verdict (permCheck sites generator (now (perm .entry)) ∷ []) ⌝ }
+    ensures { λ r. ⌜ outcomeOfVerdict r ≡ verdict (permCheck sites generator (now (perm .entry)) ∷ []) ⌝ }
 {
     if perm.len() != sites {
-        return Checked::Broken(GroupRefusal::PermutationLength(generator, perm.len()));
+        return Verdict::Refused(Refusal::PermutationLength(generator, perm.len()));
     }
     match permutation::inner::first_fault(perm, sites) {
-        TargetFault::Nothing => Checked::Fine,
-        TargetFault::OutOfRange(target) => Checked::Broken(GroupRefusal::TargetOutOfRange(
+        TargetFault::Nothing => Verdict::Accepted,
+        TargetFault::OutOfRange(target) => Verdict::Refused(Refusal::TargetOutOfRange(
             generator,
             target,
         )),
-        TargetFault::Duplicate(target) => Checked::Broken(GroupRefusal::DuplicateTarget(
+        TargetFault::Duplicate(target) => Verdict::Refused(Refusal::DuplicateTarget(
             generator,
             target,
         )),
@@ -79,12 +78,12 @@ pub fn fault(generator: usize, perm: &[u32], sites: usize) -> Checked
 }
 
 // The targets of a list's generators, 256 places each, over zeros; or the first fault, 5 to 7.
-pub fn fill_targets(list: &[u32], sites: usize, targets: &mut [u32]) -> Checked
+pub fn fill_targets(list: &[u32], sites: usize, targets: &mut [u32]) -> Verdict
     requires { ⌜ sites ≤ maxSites ⌝ }
     requires { ⌜ (endsInside (now list) ≡ false) × (length (permsOf (now list)) ≤ maxGenerators) ⌝ }
     requires { ⌜ now targets ≡ replicate targetPlaces 0 ⌝ }
-    ensures answer { λ r. ⌜ verdictOfChecked r ≡ verdict (permsCheck sites 0 (permsOf (now (list .entry))) ∷ []) ⌝ }
-    ensures targets { λ r. ⌜ (verdictOfChecked r ≡ answer tt → now (targets .exit) ≡ placedAll (permsOf (now (list .entry)))) ⌝ }
+    ensures answer { λ r. ⌜ outcomeOfVerdict r ≡ verdict (permsCheck sites 0 (permsOf (now (list .entry))) ∷ []) ⌝ }
+    ensures targets { λ r. ⌜ (outcomeOfVerdict r ≡ answer tt → now (targets .exit) ≡ placedAll (permsOf (now (list .entry)))) ⌝ }
 {
     let mut at = 0;
     let mut g = 0;
@@ -92,8 +91,8 @@ pub fn fill_targets(list: &[u32], sites: usize, targets: &mut [u32]) -> Checked
         let n = list[at] as usize;
         let start = at + 1;
         let end = start + n;
-        if let Checked::Broken(why) = fault(g, &list[start..end], sites) {
-            return Checked::Broken(why);
+        if let Verdict::Refused(why) = fault(g, &list[start..end], sites) {
+            return Verdict::Refused(why);
         }
         let place = MAX_SITES * g;
         let stop = place + sites;
@@ -101,5 +100,5 @@ pub fn fill_targets(list: &[u32], sites: usize, targets: &mut [u32]) -> Checked
         at = end;
         g += 1;
     }
-    Checked::Fine
+    Verdict::Accepted
 }

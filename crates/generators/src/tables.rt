@@ -5,66 +5,63 @@ ghost use mathlib.Core.List.{[], _∷_};
 ghost use Prim.Native.Nat.{ℕ, _≤_, _<_};
 ghost use lib.ListN.{length, take};
 ghost use Rattle.pauli_word.specs.Limits.{maxSites};
-ghost use Rattle.pauli_word.specs.Outcome.{verdict};
+ghost use Rattle.outcome.specs.Outcome.{verdict};
 ghost use Rattle.action.specs.Permutation.{Permutes};
 ghost use Rattle.permutation.specs.Limits.{targetPlaces, maxGenerators};
 ghost use Rattle.permutation.specs.Generators.{permsCheck, ordersCheck, groupChecks, rowAt, rowsOf};
 ghost use Rattle.generators.specs.Tables.{zeros, restsClear, holdGroup};
-ghost use Rattle.generators.specs.Parts.{verdictOfChecked};
-use crate::GroupRefusal;
-use crate::list::Checked;
+ghost use Rattle.generators.specs.Parts.{outcomeOfVerdict};
 use pauli_word::MAX_SITES;
 use permutation::MAX_GENERATORS;
 use permutation::MAX_ORDER;
 use permutation::inner::ExactOrder;
 use permutation::inner::Pair;
-use permutation::inner::Product;
 use permutation::inner::TargetFault;
 
 // The first fault of the orders, 8 to 10.
-pub fn orders_fault(targets: &[u32], orders: &[u32], generators: usize, sites: usize) -> Checked
+pub fn orders_fault(targets: &[u32], orders: &[u32], generators: usize, sites: usize) -> Verdict
     requires { ⌜ (length (now targets) ≡ targetPlaces) × (length (now orders) ≡ maxGenerators) × (generators ≤ maxGenerators) × (sites ≤ maxSites) ⌝ }
     requires { ⌜ ((g : ℕ) → g < generators → Permutes sites (rowAt sites (now targets) g)) ⌝ }
-    ensures { λ r. ⌜ verdictOfChecked r ≡ verdict (ordersCheck 0 (rowsOf generators sites (now (targets .entry))) (take generators (now (orders .entry))) ∷ []) ⌝ }
+    ensures { λ r. ⌜ outcomeOfVerdict r ≡ verdict (ordersCheck 0 (rowsOf generators sites (now (targets .entry))) (take generators (now (orders .entry))) ∷ []) ⌝ }
 {
     let mut g = 0;
     while g < generators {
         let declared = orders[g];
         if declared == 0 {
-            return Checked::Broken(GroupRefusal::ZeroOrder(g));
+            return Verdict::Refused(Refusal::ZeroOrder(g));
         }
         let start = MAX_SITES * g;
         let end = start + sites;
         let ExactOrder::Order(exact) = permutation::inner::exact_order(&targets[start..end]) else {
-            return Checked::Broken(GroupRefusal::PermutationOrderOverflow(g));
+            return Verdict::Refused(Refusal::PermutationOrderOverflow(g));
         };
         if declared != exact {
-            return Checked::Broken(GroupRefusal::OrderMismatch(g, declared, exact));
+            return Verdict::Refused(Refusal::OrderMismatch(g, declared, exact));
         }
         g += 1;
     }
-    Checked::Fine
+    Verdict::Accepted
 }
 
 // The first fault of permutations with their orders, 8 to 13.
-pub fn group_fault(targets: &[u32], orders: &[u32], generators: usize, sites: usize) -> Checked
+pub fn group_fault(targets: &[u32], orders: &[u32], generators: usize, sites: usize) -> Verdict
     requires { ⌜ (length (now targets) ≡ targetPlaces) × (length (now orders) ≡ maxGenerators) × (generators ≤ maxGenerators) × (sites ≤ maxSites) ⌝ }
     requires { ⌜ ((g : ℕ) → g < generators → Permutes sites (rowAt sites (now targets) g)) ⌝ }
-    ensures { λ r. ⌜ verdictOfChecked r ≡ verdict (groupChecks sites (rowsOf generators sites (now (targets .entry))) (take generators (now (orders .entry)))) ⌝ }
+    ensures { λ r. ⌜ outcomeOfVerdict r ≡ verdict (groupChecks sites (rowsOf generators sites (now (targets .entry))) (take generators (now (orders .entry)))) ⌝ }
 {
-    if let Checked::Broken(why) = orders_fault(targets, orders, generators, sites) {
-        return Checked::Broken(why);
+    if let Verdict::Refused(why) = orders_fault(targets, orders, generators, sites) {
+        return Verdict::Refused(why);
     }
     if let Pair::Found(left, right) = permutation::inner::first_pair(targets, generators, sites) {
-        return Checked::Broken(GroupRefusal::NonCommuting(left, right));
+        return Verdict::Refused(Refusal::NonCommuting(left, right));
     }
-    let Product::Order(order) = permutation::inner::group_order(orders, generators) else {
-        return Checked::Broken(GroupRefusal::GroupOrderOverflow);
+    let Number::Value(order) = permutation::inner::group_order(orders, generators) else {
+        return Verdict::Refused(Refusal::GroupOrderOverflow);
     };
     if MAX_ORDER < order {
-        return Checked::Broken(GroupRefusal::GroupOrderLimit);
+        return Verdict::Refused(Refusal::GroupOrderLimit);
     }
-    Checked::Fine
+    Verdict::Accepted
 }
 
 // Whether all numbers are 0.
@@ -127,7 +124,7 @@ pub fn hold_group(targets: &[u32], orders: &[u32], generators: usize, sites: usi
     if !perms_fine(targets, generators, sites) {
         return false;
     }
-    let Checked::Fine = group_fault(targets, orders, generators, sites) else {
+    let Verdict::Accepted = group_fault(targets, orders, generators, sites) else {
         return false;
     };
     if !rests_clear(targets, generators, sites) {

@@ -8,7 +8,7 @@ use lib.Dec.{ltb, leb}
 use lib.ListN.{length, take, drop}
 use borrow.Author.Tests.{leb-true, le-leb, ltb-false, not-false}
 use Rattle.pauli_word.specs.Limits.{maxSites, planeLength, wordLength}
-use Rattle.pauli_word.specs.Outcome.{answer, verdict}
+use Rattle.outcome.specs.Outcome.{answer, verdict}
 use Rattle.pauli_word.specs.Bytes.{clearFrom, Bytes, AcceptedWord}
 use Rattle.pauli_word.specs.Calls.{siteCount, clearAbove}
 use Rattle.action.specs.Index.{orderOf}
@@ -59,7 +59,7 @@ module _ (w : Walk) (ok : verdict (siteCount (w .group .sites) ∷ notAWalk w �
   pub walk-group : AcceptedGroup (w .group)
   walk-group = record { few = le-leb (w .group .sites) maxSites few; isOne = parts .0 }
 
-  pub walk-word : length (w .word) ≡ wordLength → Bytes (w .word) → AcceptedWord planeLength (w .group .sites) (w .word)
+  pub walk-word : length (w .word) ≡ wordLength → Bytes (w .word) → AcceptedWord (w .group .sites) (w .word)
   walk-word long small = record { sites = few; long = long; small = small; xClear = parts .1; zClear = parts .2 }
 
   pub walk-index : w .index ≤ orderOf (generatorsOf (w .group))

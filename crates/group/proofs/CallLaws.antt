@@ -8,13 +8,13 @@ use lib.Dec.{ltb, eqb}
 use lib.ListN.{length, take, drop}
 use borrow.Author.Tests.{ltb-false, le-leb, eqb-true, not-false}
 use Rattle.pauli_word.specs.Limits.{maxSites, planeLength, wordLength}
-use Rattle.pauli_word.specs.Outcome.{Outcome, refused, answer, Check, verdict, given, unless, onAnswer, orElse}
+use Rattle.outcome.specs.Outcome.{Outcome, refused, answer, Check, verdict, given, unless, onAnswer, orElse}
 use Rattle.pauli_word.specs.Bytes.{clearFrom, Bytes, AcceptedWord}
 use Rattle.pauli_word.specs.Calls.{siteCount, wordSize, bitAbove, clearAbove}
 use Rattle.permutation.proofs.Rules.{verdict-fine}
 use Rattle.group.specs.declared.Group.{Group}
-use Rattle.group.specs.declared.Refusal.{Refusal}
-use Rattle.group.specs.declared.Refusal.the-variants as Refusal
+use Rattle.outcome.specs.declared.Refusal.{Refusal}
+use Rattle.outcome.specs.declared.Refusal.the-variants as Refusal
 use Rattle.group.specs.Value.{isGroup, notAGroup, AcceptedGroup}
 use Rattle.group.specs.Calls.{refusalOf, valueChecks, otherSites, wordCallChecks}
 
@@ -22,7 +22,7 @@ use Rattle.group.specs.Calls.{refusalOf, valueChecks, otherSites, wordCa
 
 given-refusal : {A : Type 0} (why : Refusal) (o : Outcome A) → given (refusalOf why) o ≡ refusalOf why
 given-refusal Refusal.TooManySites o = refl
-given-refusal Refusal.NotAGroup o = refl
+given-refusal Refusal.InvalidValue o = refl
 given-refusal Refusal.WordLength o = refl
 given-refusal Refusal.OtherSites o = refl
 given-refusal Refusal.BitAboveSites o = refl
@@ -51,7 +51,7 @@ front-refused cs ds why e = verdict-append cs ds ∙ call-refused cs (verdict ds
 -- what stands beside a refusal
 pub refusal-stays : {A B : Type 0} (f : A → B) (why : Refusal) → onAnswer f (refusalOf why) ≡ refusalOf why
 refusal-stays f Refusal.TooManySites = refl
-refusal-stays f Refusal.NotAGroup = refl
+refusal-stays f Refusal.InvalidValue = refl
 refusal-stays f Refusal.WordLength = refl
 refusal-stays f Refusal.OtherSites = refl
 refusal-stays f Refusal.BitAboveSites = refl
@@ -62,7 +62,7 @@ refusal-stays f Refusal.ListLength = refl
 
 pub refusal-else : {A B : Type 0} (f : A → B) (z : B) (why : Refusal) → orElse f z (refusalOf why) ≡ z
 refusal-else f z Refusal.TooManySites = refl
-refusal-else f z Refusal.NotAGroup = refl
+refusal-else f z Refusal.InvalidValue = refl
 refusal-else f z Refusal.WordLength = refl
 refusal-else f z Refusal.OtherSites = refl
 refusal-else f z Refusal.BitAboveSites = refl
@@ -112,9 +112,9 @@ module _ (g : Group) (n : ℕ) (bytes : List ℕ) (pass : verdict (wordCallCheck
   pub call-long : length bytes ≡ wordLength
   call-long = eqb-true (length bytes) wordLength (not-false (eqb (length bytes) wordLength) (fifteen .0))
 
-  pub call-word : Bytes bytes → AcceptedWord planeLength (g .sites) bytes
+  pub call-word : Bytes bytes → AcceptedWord (g .sites) bytes
   call-word small =
-      let ok : AcceptedWord planeLength n bytes =
+      let ok : AcceptedWord n bytes =
       record { sites = ltb-false maxSites n (few .0); long = call-long; small = small; xClear = clear .0; zClear = clear .1 }
       in
-      subst (λ (k : ℕ). AcceptedWord planeLength k bytes) call-sites ok
+      subst (λ (k : ℕ). AcceptedWord k bytes) call-sites ok

@@ -13,7 +13,7 @@ use lib.ListN.{length, getD, take, length-map}
 use lib.Seq.{length-take-le}
 use borrow.Author.Tests.{leb-true, le-leb, ltb-true, ltb-false, le-ltb, eq-eqb, not-false}
 use Rattle.pauli_word.specs.Limits.{maxSites, planeLength, wordLength}
-use Rattle.pauli_word.specs.Outcome.{Outcome, refused, answer, Check, verdict, given, unless}
+use Rattle.outcome.specs.Outcome.{Outcome, refused, answer, Check, verdict, given, unless}
 use Rattle.pauli_word.specs.Bytes.{AcceptedWord}
 use Rattle.pauli_word.specs.Calls.{siteCount}
 use Rattle.action.specs.Lists.{Member}
@@ -180,7 +180,7 @@ lattice-generators a b c n gs g e made room law =
 
 -- an accepted word of its sites passes with it
 pub word-passes :
-    (g : Group) → AcceptedGroup g → (bytes : List ℕ) → AcceptedWord planeLength (g .sites) bytes → verdict (wordCallChecks g (g .sites) bytes) ≡ answer tt
+    (g : Group) → AcceptedGroup g → (bytes : List ℕ) → AcceptedWord (g .sites) bytes → verdict (wordCallChecks g (g .sites) bytes) ≡ answer tt
 word-passes g ok bytes word =
     simp (
       le-ltb maxSites (g .sites) (leb-true (g .sites) maxSites (ok .few)),

@@ -10,7 +10,7 @@ use lib.Dec.{ltb}
 use lib.ListN.{length, take, drop, replicate, length-map}
 use borrow.Author.Tests.{ltb-true, ltb-false, not-false}
 use Rattle.pauli_word.specs.Limits.{maxSites}
-use Rattle.pauli_word.specs.Outcome.{Outcome, refused, answer, given, onAnswer, orElse}
+use Rattle.outcome.specs.Outcome.{Outcome, refused, answer, given, onAnswer, orElse}
 use Rattle.action.specs.Lists.{below}
 use Rattle.action.specs.Permutation.{Generator}
 use Rattle.action.specs.Lattice.{shifted, shift, chain, ladder, torus2, torus3}
@@ -27,7 +27,7 @@ use Rattle.group.specs.declared.LatticeMade.{LatticeMade}
 use Rattle.group.specs.declared.Lattice.{Lattice}
 use Rattle.group.specs.declared.Lattice.the-variants as Lattice
 use Rattle.group.specs.Value.{groupOf, noGroup}
-use Rattle.group.specs.Calls.{done, itself, outcomeOfLattice, latticeOutcome, chainOutcome, ladderOutcome, torus2Outcome, torus3Outcome}
+use Rattle.group.specs.Calls.{done, itself, outcomeOfVerdict, latticeOutcome, chainOutcome, ladderOutcome, torus2Outcome, torus3Outcome}
 
 -- ---- what a lattice comes to by its sides
 
@@ -82,7 +82,7 @@ torus3-sides lx ly lz = lattice-sides lx ly lz (threeAxes lx ly lz)
 -- a refused lattice, and an accepted one, as they are handed back
 module _ (r : LatticeMade) (o : Outcome Group) where
   abbrev Met : Type 0
-  Met = (outcomeOfLattice (r .answer) ≡ onAnswer done o) × (r .group ≡ orElse itself noGroup o)
+  Met = (outcomeOfVerdict (r .answer) ≡ onAnswer done o) × (r .group ≡ orElse itself noGroup o)
 
   pub lattice-zero : r .answer ≡ Lattice.ZeroSide → r .group ≡ noGroup → o ≡ refused 26 [] → Met
   lattice-zero a g e = (rw (a, e), rw (g, e))

@@ -10,16 +10,16 @@ use lib.ListN.{length, take, length-map}
 use lib.Seq.{take-at}
 use borrow.Author.Tests.{lt-ltb, le-ltb, eq-eqb, ne-eqb}
 use Rattle.pauli_word.specs.Limits.{maxSites}
-use Rattle.pauli_word.specs.Outcome.{Outcome, refused, answer, Check, verdict, given, onAnswer, orElse}
+use Rattle.outcome.specs.Outcome.{Outcome, refused, answer, Check, verdict, given, onAnswer, orElse}
 use Rattle.pauli_word.specs.Calls.{siteCount}
 use Rattle.pauli_word.proofs.Checks.{call-answers}
 use Rattle.permutation.specs.Limits.{maxGenerators}
 use Rattle.permutation.specs.Generators.{endsInside, permsOf, listEnd, permsCheck, groupChecks, generatorChecks, declared, rowsOf}
 use Rattle.permutation.proofs.Rules.{perms-fine}
-use Rattle.generators.specs.declared.GroupRefusal.{GroupRefusal}
+use Rattle.outcome.specs.declared.Refusal.{Refusal}
 use Rattle.generators.specs.declared.list.Scan.the-variants as Scan
 use Rattle.generators.specs.Tables.{filled, placedAll, answers}
-use Rattle.generators.specs.Parts.{scanOutcome, groupRefusalOf}
+use Rattle.generators.specs.Parts.{scanOutcome, refusalOf}
 use Rattle.generators.proofs.Zeros.{blank}
 use Rattle.generators.proofs.Verdicts.{alone, refusal-no-answer, refused-broken, first-refuses}
 use Rattle.generators.proofs.Groups.{rows-placed}
@@ -27,7 +27,7 @@ use Rattle.group.specs.declared.Group.{Group}
 use Rattle.group.specs.declared.Grouped.the-variants as Grouped
 use Rattle.group.specs.declared.Made.{Made}
 use Rattle.group.specs.Value.{groupOf, noGroup, tryFromOutcome}
-use Rattle.group.specs.Calls.{done, itself, outcomeOfGrouped}
+use Rattle.group.specs.Calls.{done, itself, outcomeOfVerdict}
 
 -- ---- the value of generators
 
@@ -94,14 +94,14 @@ module _ (n : ℕ) (list orders : List ℕ) where
   tryChecks = siteCount n ∷ listEnd list ∷ generatorChecks n (permsOf list) orders
 
   pub refused-made :
-      (why : GroupRefusal) → verdict tryChecks ≡ groupRefusalOf why → (r : Made) → r .answer ≡ Grouped.Refused why → r .group ≡ noGroup
-      → (outcomeOfGrouped (r .answer) ≡ onAnswer done (tryFromOutcome n list orders)) × (r .group ≡ orElse itself noGroup (tryFromOutcome n list orders))
+      (why : Refusal) → verdict tryChecks ≡ refusalOf why → (r : Made) → r .answer ≡ Grouped.Refused why → r .group ≡ noGroup
+      → (outcomeOfVerdict (r .answer) ≡ onAnswer done (tryFromOutcome n list orders)) × (r .group ≡ orElse itself noGroup (tryFromOutcome n list orders))
   unfolding tryFromOutcome
   refused-made why e r told none =
       let v = verdict tryChecks in
       let o = answer (groupOf n (declared (permsOf list) orders)) in
       let no = ap answers e ∙ refusal-no-answer why in
-      (ap outcomeOfGrouped told ∙ sym e ∙ refused-stays v o no, none ∙ refused-else v o noGroup no)
+      (ap outcomeOfVerdict told ∙ sym e ∙ refused-stays v o no, none ∙ refused-else v o noGroup no)
 
   pub answered-made :
       length (permsOf list) ≡ length orders → verdict tryChecks ≡ answer tt
@@ -141,7 +141,7 @@ module _ (n : ℕ) (list orders : List ℕ) where
                 eq-eqb (length (permsOf list)) (length orders) same,
               )
 
-          pub perms-refused : (why : GroupRefusal) → groupRefusalOf why ≡ alone (permsCheck n 0 (permsOf list)) → verdict tryChecks ≡ groupRefusalOf why
+          pub perms-refused : (why : Refusal) → refusalOf why ≡ alone (permsCheck n 0 (permsOf list)) → verdict tryChecks ≡ refusalOf why
           perms-refused why e =
               let check = permsCheck n 0 (permsOf list) in
               perms-decide ∙ first-refuses check (groupChecks n (permsOf list) orders) (refused-broken check why e) ∙ sym e

@@ -9,7 +9,7 @@ use lib.Dec.{ltb, eqb}
 use lib.ListN.{length, drop, drop-of-length-le}
 use borrow.Author.Tests.{leb-true, lt-ltb, le-ltb, eq-eqb, ne-eqb}
 use Rattle.pauli_word.specs.Limits.{maxSites, planeLength, wordLength}
-use Rattle.pauli_word.specs.Outcome.{refused, answer, verdict}
+use Rattle.outcome.specs.Outcome.{refused, answer, verdict}
 use Rattle.pauli_word.specs.Bytes.{decode, AcceptedWord}
 use Rattle.pauli_word.specs.Calls.{siteCount}
 use Rattle.pauli_word.proofs.Checks.{call-answers}
@@ -54,7 +54,7 @@ module _ (g : Group) (ok : AcceptedGroup g) where
 
   -- ---- an accepted word, and the length of a lent list
 
-  module _ (bytes : List ℕ) (word : AcceptedWord planeLength (g .sites) bytes) (k : ℕ) where
+  module _ (bytes : List ℕ) (word : AcceptedWord (g .sites) bytes) (k : ℕ) where
     long : eqb (length bytes) wordLength ≡ true
     long = eq-eqb (length bytes) wordLength (word .long)
 
@@ -67,7 +67,7 @@ module _ (g : Group) (ok : AcceptedGroup g) where
 
     pub shift-answer :
         k ≡ g .generators
-        → let w = decode planeLength (g .sites) bytes in
+        → let w = lettersIn (g .sites) bytes in
         (withShiftOutcome g (g .sites) bytes k ≡ answer (least (generatorsOf g) w, digits (generatorsOf g) (indexBack (generatorsOf g) w)))
     unfolding withShiftOutcome
     shift-answer e = simp (few, ok .isOne, long, same, word .xClear, word .zClear, eq-eqb k (g .generators) e)
@@ -78,7 +78,7 @@ module _ (g : Group) (ok : AcceptedGroup g) where
 
     pub orbit-answer :
         k ≡ wordLength * orderOf (generatorsOf g)
-        → orbitListOutcome g (g .sites) bytes k ≡ answer (orbitList (generatorsOf g) (decode planeLength (g .sites) bytes))
+        → orbitListOutcome g (g .sites) bytes k ≡ answer (orbitList (generatorsOf g) (lettersIn (g .sites) bytes))
     unfolding orbitListOutcome
     orbit-answer e = simp (few, ok .isOne, long, same, word .xClear, word .zClear, eq-eqb k (wordLength * orderOf (generatorsOf g)) e)
 

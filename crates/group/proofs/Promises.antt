@@ -11,7 +11,7 @@ use native.Mathlib.Nat.{mul-one, mul-assoc}
 use native.Mathlib.Omega.{arith}
 use lib.ListN.{length}
 use Rattle.pauli_word.specs.Limits.{planeLength, wordLength}
-use Rattle.pauli_word.specs.Outcome.{Outcome, answer, verdict}
+use Rattle.outcome.specs.Outcome.{Outcome, answer, verdict}
 use Rattle.pauli_word.specs.Word.{Word, less}
 use Rattle.pauli_word.specs.Bytes.{decode, encode, Bytes, AcceptedWord}
 use Rattle.pauli_word.specs.Calls.{siteCount}
@@ -76,7 +76,7 @@ module _ (g : Group) where
     group-valid = Given.held-valid g ok
 
     -- no accepted word is refused
-    pub word-accepted : (bytes : List ℕ) → AcceptedWord planeLength (g .sites) bytes → verdict (wordCallChecks g (g .sites) bytes) ≡ answer tt
+    pub word-accepted : (bytes : List ℕ) → AcceptedWord (g .sites) bytes → verdict (wordCallChecks g (g .sites) bytes) ≡ answer tt
     word-accepted = Given.word-passes g ok
 
 -- ---- 3 The least word and its index: a call with an accepted group and word answers by a word of the orbit than which none is less, and by the
@@ -96,12 +96,12 @@ pub record CanonicalAnswer (gs : List Generator) (w : Word) (outcome : Outcome (
   pub leadsBack : reach gs index word ≡ w
 
 pub canonical-answer :
-    (g : Group) → AcceptedGroup g → Long g → (bytes : List ℕ) → AcceptedWord planeLength (g .sites) bytes
-    → CanonicalAnswer (generatorsOf g) (decode planeLength (g .sites) bytes) (withIndexOutcome g (g .sites) bytes)
+    (g : Group) → AcceptedGroup g → Long g → (bytes : List ℕ) → AcceptedWord (g .sites) bytes
+    → CanonicalAnswer (generatorsOf g) (lettersIn (g .sites) bytes) (withIndexOutcome g (g .sites) bytes)
 unfolding withIndexOutcome
 canonical-answer g ok long bytes accepted =
     let gs : List Generator = generatorsOf g in
-    let w : Word = decode planeLength (g .sites) bytes in
+    let w : Word = lettersIn (g .sites) bytes in
     let valid : Valid (g .sites) gs = group-valid g ok long in
     let e : length w ≡ g .sites = decode-length accepted in
     record {
@@ -121,44 +121,44 @@ canonical-answer g ok long bytes accepted =
 -- ---- 4 The walk: begun with an accepted group and word, it gives at step i, for each index i below the order, the bytes of the word that i reaches,
 -- and is then finished and stays
 
-module _ (g : Group) (ok : AcceptedGroup g) (long : Long g) (bytes : List ℕ) (word : AcceptedWord planeLength (g .sites) bytes)
+module _ (g : Group) (ok : AcceptedGroup g) (long : Long g) (bytes : List ℕ) (word : AcceptedWord (g .sites) bytes)
     (start : Walk) (begun : beginOutcome g (g .sites) bytes ≡ answer start) where
   pub walk-entries : (i : ℕ) → i < orderOf (generatorsOf g)
       → (nextOutcome (walked i start) ≡ answer (entry i))
-      × (entryWord (walked i start) (entry i) ≡ encode planeLength (reach (generatorsOf g) i (decode planeLength (g .sites) bytes)))
+      × (entryWord (walked i start) (entry i) ≡ bytesOf (reach (generatorsOf g) i (lettersIn (g .sites) bytes)))
   walk-entries i h =
       let e = Walked.steps-before g ok long bytes word start begun i (omega arith) in
-      (ap nextOutcome e ∙ Walked.at-entry g ok long (decode planeLength (g .sites) bytes) (decode-length word) i h, ap (λ (v : Walk). v .word) e)
+      (ap nextOutcome e ∙ Walked.at-entry g ok long (lettersIn (g .sites) bytes) (decode-length word) i h, ap (λ (v : Walk). v .word) e)
 
   pub walk-finished : (i : ℕ) → orderOf (generatorsOf g) ≤ i
       → (nextOutcome (walked i start) ≡ answer finished) × (walked (suc i) start ≡ walked i start)
   walk-finished i h =
       let past = Walked.steps-past g ok long bytes word start begun in (
-        ap nextOutcome (past i h) ∙ Walked.at-end g ok long (decode planeLength (g .sites) bytes) (decode-length word),
+        ap nextOutcome (past i h) ∙ Walked.at-end g ok long (lettersIn (g .sites) bytes) (decode-length word),
         past (suc i) (omega arith) ∙ sym (past i h),
       )
 
   -- the words that it gives, in order, are those of the orbit list
   pub walk-words : (k : ℕ) → orderOf (generatorsOf g) ≤ k
-      → wordsGiven k start ≡ map (encode planeLength) (orbitList (generatorsOf g) (decode planeLength (g .sites) bytes))
+      → wordsGiven k start ≡ map bytesOf (orbitList (generatorsOf g) (lettersIn (g .sites) bytes))
   walk-words k h =
       let gs : List Generator = generatorsOf g in
-      let w : Word = decode planeLength (g .sites) bytes in
+      let w : Word = lettersIn (g .sites) bytes in
       let e : min k (orderOf gs) ≡ orderOf gs = omega arith in
       ap (wordsGiven k) (Walked.starts g ok long bytes word start begun)
       ∙ Walked.words-at g ok long w (decode-length word) k
-      ∙ ap (map (encode planeLength)) (ap (entries gs w) e ∙ entries-all gs w)
+      ∙ ap (map bytesOf) (ap (entries gs w) e ∙ entries-all gs w)
 
   -- every walk on the way passes 14
   pub walk-passes : (i : ℕ) → isWalk (walked i start) ≡ true
   walk-passes i =
       ap isWalk (Walked.steps-at g ok long bytes word start begun i)
-      ∙ Walked.at-walk g ok long (decode planeLength (g .sites) bytes) (decode-length word) (min i (orderOf (generatorsOf g))) (omega arith)
+      ∙ Walked.at-walk g ok long (lettersIn (g .sites) bytes) (decode-length word) (min i (orderOf (generatorsOf g))) (omega arith)
 
 -- a walk that steps lead to from an accepted beginning
 pub record Reached (v : Walk) : Type 0 where
   pub bytes : List ℕ
-  pub accepted : AcceptedWord planeLength (v .group .sites) bytes
+  pub accepted : AcceptedWord (v .group .sites) bytes
   pub start : Walk
   pub begun : beginOutcome (v .group) (v .group .sites) bytes ≡ answer start
   pub steps : ℕ
@@ -169,7 +169,7 @@ pub walk-reached :
     (v : Walk) → isWalk v ≡ true → AcceptedGroup (v .group) → Long (v .group) → length (v .word) ≡ wordLength → Bytes (v .word) → Reached v
 walk-reached v one ok long size small =
     record {
-      bytes = encode planeLength (Walked.beginningOf v);
+      bytes = bytesOf (Walked.beginningOf v);
       accepted = Walked.beginning-accepted v one ok long size small;
       start = Walked.begunAs v;
       begun = Walked.beginning-begun v one ok long size small;

@@ -6,10 +6,10 @@ use mathlib.Core.Bool.{Bool, true, false, not, cond, true≢false}
 use mathlib.Core.List.{List, []}
 use lib.ListN.{length}
 use borrow.Author.Tests.{lt-ltb, le-ltb, eq-eqb, ne-eqb}
-use Rattle.pauli_word.specs.declared.WordRefusal.{WordRefusal}
-use Rattle.pauli_word.specs.declared.WordRefusal.the-variants.{BitAboveSites}
+use Rattle.outcome.specs.declared.Refusal.{Refusal}
+use Rattle.outcome.specs.declared.Refusal.the-variants.{BitAboveSites}
 use Rattle.pauli_word.specs.Limits.{maxSites, wordLength}
-use Rattle.pauli_word.specs.Outcome.{refused, answer, verdict, orElse}
+use Rattle.outcome.specs.Outcome.{refused, answer, verdict, orElse}
 use Rattle.pauli_word.specs.Calls.{wordChecks, clearAbove, refusalOf}
 use Rattle.pauli_word.proofs.Checks.{refusal-else}
 use Rattle.group.specs.declared.Group.{Group}
@@ -32,7 +32,7 @@ module _ (g : Group) where
 -- ---- the word's own rules, where its site count and its length are known: 17 is left
 
 -- a refusal of a word is no pass
-refusal-apart : (why : WordRefusal) → refusalOf why ≡ answer (tt {0}) → ⊥
+refusal-apart : (why : Refusal) → refusalOf why ≡ answer (tt {0}) → ⊥
 refusal-apart why e = true≢false (sym (ap (orElse (λ _. true) false) e) ∙ refusal-else (λ _. true) false why)
 
 module _ (n : ℕ) (bytes : List ℕ) (short : n ≤ maxSites) (long : length bytes ≡ wordLength) where
@@ -46,7 +46,7 @@ module _ (n : ℕ) (bytes : List ℕ) (short : n ≤ maxSites) (long : length by
       go true k = refl
       go false k = absurd (refusal-apart BitAboveSites (sym k))
 
-  pub word-above : (why : WordRefusal) → refusalOf why ≡ verdict (wordChecks n bytes) → clearAbove n bytes ≡ false
+  pub word-above : (why : Refusal) → refusalOf why ≡ verdict (wordChecks n bytes) → clearAbove n bytes ≡ false
   word-above why e = go (clearAbove n bytes) (e ∙ word-left)
     where
       go : (b : Bool) → refusalOf why ≡ cond (not b) (refused 17 []) (answer (tt {0})) → b ≡ false

@@ -10,7 +10,7 @@ use native.Mathlib.Omega.{arith}
 use lib.ListN.{length}
 use borrow.Author.Tests.{leb-true, le-leb, le-ltb}
 use Rattle.pauli_word.specs.Limits.{maxSites, planeLength, wordLength}
-use Rattle.pauli_word.specs.Outcome.{Outcome, answer, verdict, orElse}
+use Rattle.outcome.specs.Outcome.{Outcome, answer, verdict, orElse}
 use Rattle.pauli_word.specs.Word.{Word}
 use Rattle.pauli_word.specs.Bytes.{decode, encode, Bytes, AcceptedWord}
 use Rattle.pauli_word.specs.Calls.{siteCount}
@@ -56,14 +56,14 @@ checks-passed v few e = simp (le-ltb maxSites (v .group .sites) few, e)
 -- ---- the walk at the word that index i reaches from w
 
 abbrev pub walkAt : Group → Word → ℕ → Walk
-walkAt g w i = record { group = g; word = encode planeLength (reach (generatorsOf g) i w); index = i }
+walkAt g w i = record { group = g; word = bytesOf (reach (generatorsOf g) i w); index = i }
 
 module _ (g : Group) (ok : AcceptedGroup g) (long : Long g) (w : Word) (size : length w ≡ g .sites) where
   tables : Tables (g .generators) (g .sites) (g .targets) (g .orders)
   tables = accepted-tables g ok (long .targets) (long .orders)
 
   module _ (i : ℕ) where
-    here : AcceptedWord planeLength (g .sites) (encode planeLength (reach (generatorsOf g) i w))
+    here : AcceptedWord (g .sites) (bytesOf (reach (generatorsOf g) i w))
     unfolding generatorsOf
     here = walk-accepted tables w size i refl
 
@@ -80,7 +80,7 @@ module _ (g : Group) (ok : AcceptedGroup g) (long : Long g) (w : Word) (size : l
     after-entry : afterEntry (walkAt g w i) (entry i) ≡ walkAt g w (suc i)
     unfolding generatorsOf
     after-entry =
-        let e = walk-next tables w size i refl refl ∙ ap (λ (j : ℕ). encode planeLength (reach (generatorsOf g) j w)) (add-one i) in
+        let e = walk-next tables w size i refl refl ∙ ap (λ (j : ℕ). bytesOf (reach (generatorsOf g) j w)) (add-one i) in
         λ j. record { group = g; word = e j; index = suc i }
 
     step-entry : i < orderOf (generatorsOf g) → stepOn (walkAt g w i) ≡ walkAt g w (suc i)
@@ -112,16 +112,16 @@ module _ (g : Group) (ok : AcceptedGroup g) (long : Long g) (w : Word) (size : l
 
   -- the words of k steps: one for each index below k, up to the order
   pub words-at :
-      (k : ℕ) → wordsGiven k (walkAt g w 0) ≡ map (encode planeLength) (entries (generatorsOf g) w (min k (orderOf (generatorsOf g))))
+      (k : ℕ) → wordsGiven k (walkAt g w 0) ≡ map bytesOf (entries (generatorsOf g) w (min k (orderOf (generatorsOf g))))
   unfolding wordsGiven below from
   words-at zero =
       let e : 0 ≡ min 0 (orderOf (generatorsOf g)) = omega arith in
-      ap (λ (j : ℕ). map (encode planeLength) (entries (generatorsOf g) w j)) e
+      ap (λ (j : ℕ). map bytesOf (entries (generatorsOf g) w j)) e
   words-at (suc k) =
       ap₂ _++_ (words-at k) (ap (λ (v : Walk). orElse (wordGiven v) [] (nextOutcome v)) (walked-at k)) ∙ go (decLt k (orderOf (generatorsOf g)))
     where
       before : ℕ → List (List ℕ)
-      before j = map (encode planeLength) (entries (generatorsOf g) w j)
+      before j = map bytesOf (entries (generatorsOf g) w j)
 
       with-next : ℕ → List (List ℕ)
       with-next j = before j ++ orElse (wordGiven (walkAt g w j)) [] (nextOutcome (walkAt g w j))
@@ -132,8 +132,8 @@ module _ (g : Group) (ok : AcceptedGroup g) (long : Long g) (w : Word) (size : l
           let b : k + 1 ≡ min (suc k) (orderOf (generatorsOf g)) = omega arith in
           ap with-next a
           ∙ ap (λ (o : Outcome Entry). before k ++ orElse (wordGiven (walkAt g w k)) [] o) (at-entry k h)
-          ∙ sym (map-append (encode planeLength) (entries (generatorsOf g) w k) (reach (generatorsOf g) k w ∷ []))
-          ∙ ap (map (encode planeLength)) (sym (entries-next (generatorsOf g) w k))
+          ∙ sym (map-append bytesOf (entries (generatorsOf g) w k) (reach (generatorsOf g) k w ∷ []))
+          ∙ ap (map bytesOf) (sym (entries-next (generatorsOf g) w k))
           ∙ ap before b
       go (no h) =
           let a : min k (orderOf (generatorsOf g)) ≡ orderOf (generatorsOf g) = omega arith in
@@ -146,65 +146,65 @@ module _ (g : Group) (ok : AcceptedGroup g) (long : Long g) (w : Word) (size : l
 
 -- ---- a walk begun with an accepted group and word
 
-module _ (g : Group) (ok : AcceptedGroup g) (long : Long g) (bytes : List ℕ) (word : AcceptedWord planeLength (g .sites) bytes)
+module _ (g : Group) (ok : AcceptedGroup g) (long : Long g) (bytes : List ℕ) (word : AcceptedWord (g .sites) bytes)
     (start : Walk) (begun : beginOutcome g (g .sites) bytes ≡ answer start) where
-  pub starts : start ≡ walkAt g (decode planeLength (g .sites) bytes) 0
+  pub starts : start ≡ walkAt g (lettersIn (g .sites) bytes) 0
   unfolding beginOutcome
   starts =
       let first = walk-start word (generatorsOf g) in
       sym (unless-answer (wordCallChecks g (g .sites) bytes) (record { group = g; word = bytes; index = 0 }) start begun .1)
       ∙ (λ j. record { group = g; word = first j; index = 0 })
 
-  pub steps-at : (i : ℕ) → walked i start ≡ walkAt g (decode planeLength (g .sites) bytes) (min i (orderOf (generatorsOf g)))
-  steps-at i = ap (walked i) starts ∙ walked-at g ok long (decode planeLength (g .sites) bytes) (decode-length word) i
+  pub steps-at : (i : ℕ) → walked i start ≡ walkAt g (lettersIn (g .sites) bytes) (min i (orderOf (generatorsOf g)))
+  steps-at i = ap (walked i) starts ∙ walked-at g ok long (lettersIn (g .sites) bytes) (decode-length word) i
 
-  pub steps-before : (i : ℕ) → i ≤ orderOf (generatorsOf g) → walked i start ≡ walkAt g (decode planeLength (g .sites) bytes) i
-  steps-before i h = steps-at i ∙ ap (walkAt g (decode planeLength (g .sites) bytes)) (omega arith)
+  pub steps-before : (i : ℕ) → i ≤ orderOf (generatorsOf g) → walked i start ≡ walkAt g (lettersIn (g .sites) bytes) i
+  steps-before i h = steps-at i ∙ ap (walkAt g (lettersIn (g .sites) bytes)) (omega arith)
 
-  pub steps-past : (i : ℕ) → orderOf (generatorsOf g) ≤ i → walked i start ≡ walkAt g (decode planeLength (g .sites) bytes) (orderOf (generatorsOf g))
-  steps-past i h = steps-at i ∙ ap (walkAt g (decode planeLength (g .sites) bytes)) (omega arith)
+  pub steps-past : (i : ℕ) → orderOf (generatorsOf g) ≤ i → walked i start ≡ walkAt g (lettersIn (g .sites) bytes) (orderOf (generatorsOf g))
+  steps-past i h = steps-at i ∙ ap (walkAt g (lettersIn (g .sites) bytes)) (omega arith)
 
 -- ---- where a walk has begun: at the word that the inverse of its index reaches
 
 abbrev pub beginningOf : Walk → Word
 beginningOf v =
-    reach (generatorsOf (v .group)) (inverse (generatorsOf (v .group)) (v .index)) (decode planeLength (v .group .sites) (v .word))
+    reach (generatorsOf (v .group)) (inverse (generatorsOf (v .group)) (v .index)) (lettersIn (v .group .sites) (v .word))
 
 abbrev pub begunAs : Walk → Walk
-begunAs v = record { group = v .group; word = encode planeLength (beginningOf v); index = 0 }
+begunAs v = record { group = v .group; word = bytesOf (beginningOf v); index = 0 }
 
 module _ (v : Walk) (one : isWalk v ≡ true) (ok : AcceptedGroup (v .group)) (long : Long (v .group)) (size : length (v .word) ≡ wordLength)
     (small : Bytes (v .word)) where
   few : v .group .sites ≤ maxSites
   few = leb-true (v .group .sites) maxSites (ok .few)
 
-  now : AcceptedWord planeLength (v .group .sites) (v .word)
+  now : AcceptedWord (v .group .sites) (v .word)
   now = walk-word v (checks-passed v few one) size small
 
   beginning-long : length (beginningOf v) ≡ v .group .sites
   beginning-long =
-      reach-length (generatorsOf (v .group)) (inverse (generatorsOf (v .group)) (v .index)) (decode planeLength (v .group .sites) (v .word))
+      reach-length (generatorsOf (v .group)) (inverse (generatorsOf (v .group)) (v .index)) (lettersIn (v .group .sites) (v .word))
       ∙ decode-length now
 
-  pub beginning-accepted : AcceptedWord planeLength (v .group .sites) (encode planeLength (beginningOf v))
+  pub beginning-accepted : AcceptedWord (v .group .sites) (bytesOf (beginningOf v))
   beginning-accepted = encoded-accepted planeLength (beginningOf v) beginning-long few refl
 
-  pub beginning-begun : beginOutcome (v .group) (v .group .sites) (encode planeLength (beginningOf v)) ≡ answer (begunAs v)
+  pub beginning-begun : beginOutcome (v .group) (v .group .sites) (bytesOf (beginningOf v)) ≡ answer (begunAs v)
   unfolding beginOutcome
   beginning-begun =
-      call-answers (wordCallChecks (v .group) (v .group .sites) (encode planeLength (beginningOf v))) (answer (begunAs v))
-      (word-passes (v .group) ok (encode planeLength (beginningOf v)) beginning-accepted)
+      call-answers (wordCallChecks (v .group) (v .group .sites) (bytesOf (beginningOf v))) (answer (begunAs v))
+      (word-passes (v .group) ok (bytesOf (beginningOf v)) beginning-accepted)
 
   -- its own index leads from there to its word
-  back : encode planeLength (reach (generatorsOf (v .group)) (v .index) (decode planeLength (v .group .sites) (encode planeLength (beginningOf v)))) ≡ v .word
+  back : bytesOf (reach (generatorsOf (v .group)) (v .index) (lettersIn (v .group .sites) (bytesOf (beginningOf v)))) ≡ v .word
   back =
-      ap (encode planeLength)
-      (ap (reach (generatorsOf (v .group)) (v .index)) (encoded-decode planeLength (beginningOf v) beginning-long few refl)
-      ∙ reach-of-inverse (held-valid (v .group) ok long) (v .index) (decode planeLength (v .group .sites) (v .word)) (decode-length now))
+      ap bytesOf
+      (ap (reach (generatorsOf (v .group)) (v .index)) (encoded-lettersIn (beginningOf v) beginning-long few refl)
+      ∙ reach-of-inverse (held-valid (v .group) ok long) (v .index) (lettersIn (v .group .sites) (v .word)) (decode-length now))
       ∙ encode-decode now
 
   pub beginning-reaches : walked (v .index) (begunAs v) ≡ v
   beginning-reaches =
-      steps-before (v .group) ok long (encode planeLength (beginningOf v)) beginning-accepted (begunAs v) beginning-begun (v .index)
+      steps-before (v .group) ok long (bytesOf (beginningOf v)) beginning-accepted (begunAs v) beginning-begun (v .index)
       (walk-index v (checks-passed v few one))
       ∙ (λ i. record { group = v .group; word = back i; index = v .index })

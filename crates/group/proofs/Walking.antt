@@ -7,11 +7,11 @@ use mathlib.Core.List.{List, [], _∷_}
 use lib.Dec.{ltb, leb}
 use borrow.Author.Tests.{le-ltb, le-leb, lt-leb, leb-true}
 use Rattle.pauli_word.specs.Limits.{maxSites}
-use Rattle.pauli_word.specs.Outcome.{Outcome, refused, answer, Check, verdict, orElse}
+use Rattle.outcome.specs.Outcome.{Outcome, refused, answer, Check, verdict, orElse}
 use Rattle.pauli_word.specs.Calls.{siteCount, clearAbove}
 use Rattle.action.specs.Index.{orderOf}
 use Rattle.group.specs.declared.Walk.{Walk}
-use Rattle.group.specs.declared.Refusal.{Refusal}
+use Rattle.outcome.specs.declared.Refusal.{Refusal}
 use Rattle.group.specs.Value.{generatorsOf, isGroup, AcceptedGroup}
 use Rattle.group.specs.Calls.{refusalOf, valueChecks, isWalk, notAWalk}
 use Rattle.group.proofs.CallLaws.{refusal-else}

@@ -5,7 +5,7 @@ use mathlib.Core.List.{List, [], _∷_, _++_, map}
 use lib.Dec.{ltb, leb, eqb}
 use lib.ListN.{length, take, drop, replicate}
 use Rattle.pauli_word.specs.Limits.{maxSites, planeLength, wordLength}
-use Rattle.pauli_word.specs.Outcome.{Outcome, refused, answer, Check, unless}
+use Rattle.outcome.specs.Outcome.{Outcome, refused, answer, Check, unless}
 use Rattle.pauli_word.specs.Word.{Word}
 use Rattle.pauli_word.specs.Bytes.{decode, encode}
 use Rattle.pauli_word.specs.Calls.{siteCount, wordSize, bitAbove, clearAbove}
@@ -20,16 +20,16 @@ use Rattle.group.specs.declared.Grouped.{Grouped}
 use Rattle.group.specs.declared.Grouped.the-variants as Grouped
 use Rattle.group.specs.declared.Lattice.{Lattice}
 use Rattle.group.specs.declared.Lattice.the-variants as Lattice
-use Rattle.group.specs.declared.Refusal.{Refusal}
-use Rattle.group.specs.declared.Refusal.the-variants as Refusal
-use Rattle.group.specs.declared.Number.{Number}
-use Rattle.group.specs.declared.Number.the-variants as Number
+use Rattle.outcome.specs.declared.Refusal.{Refusal}
+use Rattle.outcome.specs.declared.Refusal.the-variants as Refusal
+use Rattle.outcome.specs.declared.Number.{Number}
+use Rattle.outcome.specs.declared.Number.the-variants as Number
 use Rattle.group.specs.declared.Done.{Done}
 use Rattle.group.specs.declared.Done.the-variants as Done
 use Rattle.group.specs.declared.Step.{Step}
 use Rattle.group.specs.declared.Step.the-variants as Step
 use Rattle.permutation.specs.Limits.{maxOrder}
-use Rattle.generators.specs.Parts.{groupRefusalOf, anyZero}
+use Rattle.generators.specs.Parts.{refusalOf, anyZero}
 use Rattle.group.specs.Value.{groupOf, noGroup, generatorsOf, isGroup, notAGroup}
 
 -- that there is an answer, and the answer itself
@@ -41,18 +41,18 @@ itself a = a
 
 -- ---- the cases of the answers
 
-abbrev pub outcomeOfGrouped : Grouped → Outcome (Unit {0})
-outcomeOfGrouped Grouped.Accepted = answer tt
-outcomeOfGrouped (Grouped.Refused why) = groupRefusalOf why
+abbrev pub outcomeOfVerdict : Grouped → Outcome (Unit {0})
+outcomeOfVerdict Grouped.Accepted = answer tt
+outcomeOfVerdict (Grouped.Refused why) = refusalOf why
 
-abbrev pub outcomeOfLattice : Lattice → Outcome (Unit {0})
-outcomeOfLattice Lattice.Accepted = answer tt
-outcomeOfLattice Lattice.ZeroSide = refused 26 []
-outcomeOfLattice Lattice.SidesTooLarge = refused 27 []
+abbrev pub outcomeOfVerdict : Lattice → Outcome (Unit {0})
+outcomeOfVerdict Lattice.Accepted = answer tt
+outcomeOfVerdict Lattice.ZeroSide = refused 26 []
+outcomeOfVerdict Lattice.SidesTooLarge = refused 27 []
 
 abbrev pub refusalOf : {A : Type 0} → Refusal → Outcome A
 refusalOf Refusal.TooManySites = refused 1 []
-refusalOf Refusal.NotAGroup = refused 14 []
+refusalOf Refusal.InvalidValue = refused 14 []
 refusalOf Refusal.WordLength = refused 15 []
 refusalOf Refusal.OtherSites = refused 16 []
 refusalOf Refusal.BitAboveSites = refused 17 []
@@ -65,9 +65,9 @@ abbrev pub outcomeOfNumber : Number → Outcome ℕ
 outcomeOfNumber (Number.Value k) = answer k
 outcomeOfNumber (Number.Refused why) = refusalOf why
 
-abbrev pub outcomeOfDone : Done → Outcome (Unit {0})
-outcomeOfDone Done.Finished = answer tt
-outcomeOfDone (Done.Refused why) = refusalOf why
+abbrev pub outcomeOfVerdict : Done → Outcome (Unit {0})
+outcomeOfVerdict Done.Finished = answer tt
+outcomeOfVerdict (Done.Refused why) = refusalOf why
 
 -- ---- the lattices: 26, 27
 
@@ -129,17 +129,17 @@ abbrev pub wordCallChecks : Group → ℕ → List ℕ → List Check
 wordCallChecks g n bytes = siteCount (g .sites) ∷ siteCount n ∷ notAGroup g ∷ wordSize bytes ∷ otherSites g n ∷ bitAbove n bytes ∷ []
 
 unfoldable pub canonicalizeOutcome : Group → ℕ → List ℕ → Outcome Word
-canonicalizeOutcome g n bytes = unless (wordCallChecks g n bytes) (answer (least (generatorsOf g) (decode planeLength n bytes)))
+canonicalizeOutcome g n bytes = unless (wordCallChecks g n bytes) (answer (least (generatorsOf g) (lettersIn n bytes)))
 
 -- the least word, and the index that leads from it back to the word
 unfoldable pub withIndexOutcome : Group → ℕ → List ℕ → Outcome (Word × ℕ)
 withIndexOutcome g n bytes =
     unless (wordCallChecks g n bytes)
-    (answer (least (generatorsOf g) (decode planeLength n bytes), indexBack (generatorsOf g) (decode planeLength n bytes)))
+    (answer (least (generatorsOf g) (lettersIn n bytes), indexBack (generatorsOf g) (lettersIn n bytes)))
 
 -- its parts as a call hands them back
 abbrev pub wordOf : {A : Type 0} → Word × A → List ℕ
-wordOf p = encode planeLength (p .0)
+wordOf p = bytesOf (p .0)
 
 abbrev pub indexOf : Word × ℕ → ℕ
 indexOf p = p .1
@@ -151,13 +151,13 @@ shiftOf p = p .1
 unfoldable pub withShiftOutcome : Group → ℕ → List ℕ → ℕ → Outcome (Word × List ℕ)
 withShiftOutcome g n bytes k =
     unless (wordCallChecks g n bytes ++ (listLength k (g .generators) ∷ []))
-    (answer (least (generatorsOf g) (decode planeLength n bytes), digits (generatorsOf g) (indexBack (generatorsOf g) (decode planeLength n bytes))))
+    (answer (least (generatorsOf g) (lettersIn n bytes), digits (generatorsOf g) (indexBack (generatorsOf g) (lettersIn n bytes))))
 
 -- the orbit list; k is the length of the lent list
 unfoldable pub orbitListOutcome : Group → ℕ → List ℕ → ℕ → Outcome (List Word)
 orbitListOutcome g n bytes k =
     unless (wordCallChecks g n bytes ++ (listLength k (wordLength * orderOf (generatorsOf g)) ∷ []))
-    (answer (orbitList (generatorsOf g) (decode planeLength n bytes)))
+    (answer (orbitList (generatorsOf g) (lettersIn n bytes)))
 
 -- the bytes beside an answer without a word
 abbrev pub noWord : List ℕ
@@ -206,7 +206,7 @@ entryWord w finished = noWord
 abbrev pub afterEntry : Walk → Entry → Walk
 afterEntry w (entry i) = record {
   group = w .group;
-  word = encode planeLength (stepped (generatorsOf (w .group)) (digits (generatorsOf (w .group)) i) (decode planeLength (w .group .sites) (w .word)));
+  word = bytesOf (stepped (generatorsOf (w .group)) (digits (generatorsOf (w .group)) i) (lettersIn (w .group .sites) (w .word)));
   index = suc i;
 }
 afterEntry w finished = w

@@ -6,7 +6,7 @@ use mathlib.Core.List.{List, [], _∷_, map}
 use lib.Dec.{leb}
 use lib.ListN.{length, replicate}
 use Rattle.pauli_word.specs.Limits.{maxSites}
-use Rattle.pauli_word.specs.Outcome.{Outcome, answer, Check, unless}
+use Rattle.outcome.specs.Outcome.{Outcome, answer, Check, unless}
 use Rattle.pauli_word.specs.Calls.{siteCount}
 use Rattle.action.specs.Lists.{Member}
 use Rattle.action.specs.Permutation.{Generator}

@@ -5,7 +5,7 @@ ghost use mathlib.Core.List.{[], _∷_};
 ghost use Prim.Native.Nat.{_≤_, _<_};
 ghost use lib.ListN.{length};
 ghost use Rattle.pauli_word.specs.Limits.{maxSites, planeLength, wordLength};
-ghost use Rattle.pauli_word.specs.Outcome.{onAnswer, orElse, unless, verdict, answer};
+ghost use Rattle.outcome.specs.Outcome.{onAnswer, orElse, unless, verdict, answer};
 ghost use Rattle.pauli_word.specs.Bytes.{decode, encode, AcceptedWord};
 ghost use Rattle.pauli_word.specs.Calls.{siteCount};
 ghost use Rattle.action.specs.Index.{orderOf, digits};
@@ -15,24 +15,16 @@ ghost use Rattle.permutation.specs.Limits.{maxGenerators};
 ghost use Rattle.permutation.specs.Generators.{endsInside, permsOf};
 ghost use Rattle.orbit.specs.Tables.{encodeAll};
 ghost use Rattle.group.specs.Value.{noGroup, generatorsOf, AcceptedGroup, tryFromOutcome};
-ghost use Rattle.group.specs.Calls.{done, itself, outcomeOfGrouped, outcomeOfNumber, outcomeOfDone, outcomeOfStep, indexRange, listLength, counterOutcome, invertOutcome, withShiftOutcome, wordOf, shiftOf, orbitListOutcome, noWord, noWalk, notAWalk, nextOutcome, entryWord, afterEntry};
-ghost use Rattle.group.specs.Parts.{verdictOfPass};
+ghost use Rattle.group.specs.Calls.{done, itself, outcomeOfVerdict, outcomeOfNumber, outcomeOfVerdict, outcomeOfStep, indexRange, listLength, counterOutcome, invertOutcome, withShiftOutcome, wordOf, shiftOf, orbitListOutcome, noWord, noWalk, notAWalk, nextOutcome, entryWord, afterEntry};
+ghost use Rattle.group.specs.Parts.{outcomeOfVerdict};
 use crate::Canonical;
-use crate::Done;
 use crate::Group;
-use crate::Grouped;
-use crate::Lattice;
-use crate::LatticeMade;
 use crate::Made;
-use crate::Number;
-use crate::Refusal;
+use crate::Made;
 use crate::Step;
 use crate::Stepped;
 use crate::Walk;
 use crate::value;
-use crate::value::Pass;
-use generators::GroupRefusal;
-use generators::list::Checked;
 use orbit::walk::LeastWord;
 use pauli_word::WORD_BYTES;
 use permutation::MAX_GENERATORS;
@@ -51,19 +43,19 @@ pub fn no_group() -> Group
     }
 }
 
-pub fn refused(why: GroupRefusal) -> Made
+pub fn refused(why: Refusal) -> Made
     ensures { λ r. ⌜ (r .answer ≡ Grouped.Refused why) × (r .group ≡ noGroup) ⌝ }
 {
     Made {
-        answer: Grouped::Refused(why),
+        answer: Verdict::Refused(why),
         group: no_group(),
     }
 }
 
-pub fn no_lattice(why: Lattice) -> LatticeMade
+pub fn no_lattice(why: Lattice) -> Made
     ensures { λ r. ⌜ (r .answer ≡ why) × (r .group ≡ noGroup) ⌝ }
 {
-    LatticeMade {
+    Made {
         answer: why,
         group: no_group(),
     }
@@ -75,11 +67,11 @@ pub fn lattice(
     generators: usize,
     orders: [u32; MAX_GENERATORS],
     targets: [u32; TARGET_PLACES],
-) -> LatticeMade
+) -> Made
     ensures { λ r. ⌜ (r .answer ≡ Lattice.Accepted) × (r .group .sites ≡ sites) × (r .group .generators ≡ generators) × (r .group .orders ≡ orders) × (r .group .targets ≡ targets) ⌝ }
 {
-    LatticeMade {
-        answer: Lattice::Accepted,
+    Made {
+        answer: Verdict::Accepted,
         group: Group {
             sites,
             generators,
@@ -92,16 +84,16 @@ pub fn lattice(
 // The group of a list whose counts have been checked: 5 to 13.
 pub fn made(sites: usize, list: &[u32], orders: &[u32], count: usize) -> Made
     requires { ⌜ (sites ≤ maxSites) × (endsInside (now list) ≡ false) × (count ≡ length (permsOf (now list))) × (count ≤ maxGenerators) × (count ≡ length (now orders)) ⌝ }
-    ensures answer { λ r. ⌜ outcomeOfGrouped (r .answer) ≡ onAnswer done (tryFromOutcome sites (now (list .entry)) (now (orders .entry))) ⌝ }
+    ensures answer { λ r. ⌜ outcomeOfVerdict (r .answer) ≡ onAnswer done (tryFromOutcome sites (now (list .entry)) (now (orders .entry))) ⌝ }
     ensures group { λ r. ⌜ r .group ≡ orElse itself noGroup (tryFromOutcome sites (now (list .entry)) (now (orders .entry))) ⌝ }
 {
     let mut targets = [0u32; TARGET_PLACES];
-    if let Checked::Broken(why) = generators::list::fill_targets(list, sites, &mut targets) {
+    if let Verdict::Refused(why) = generators::list::fill_targets(list, sites, &mut targets) {
         return refused(why);
     }
     let mut declared = [0u32; MAX_GENERATORS];
     generators::list::copy(orders, &mut declared[..count]);
-    if let Checked::Broken(why) = generators::tables::group_fault(
+    if let Verdict::Refused(why) = generators::tables::group_fault(
         &targets,
         &declared,
         count,
@@ -110,7 +102,7 @@ pub fn made(sites: usize, list: &[u32], orders: &[u32], count: usize) -> Made
         return refused(why);
     }
     Made {
-        answer: Grouped::Accepted,
+        answer: Verdict::Accepted,
         group: Group {
             sites,
             generators: count,
@@ -141,16 +133,16 @@ pub fn modulus_of(group: Group) -> usize
 }
 
 // 19, 21, then the digits.
-pub fn counter_of(group: Group, index: usize, counter: &mut [u32]) -> Done
+pub fn counter_of(group: Group, index: usize, counter: &mut [u32]) -> Verdict
     requires { ⌜ AcceptedGroup group ⌝ }
-    ensures answer { λ r. ⌜ outcomeOfDone r ≡ onAnswer done (counterOutcome group index (length (now (counter .entry)))) ⌝ }
+    ensures answer { λ r. ⌜ outcomeOfVerdict r ≡ onAnswer done (counterOutcome group index (length (now (counter .entry)))) ⌝ }
     ensures counter { λ _. ⌜ now (counter .exit) ≡ orElse itself (now (counter .entry)) (counterOutcome group index (length (now (counter .entry)))) ⌝ }
 {
     if order_of(group) <= index {
-        return Done::Refused(Refusal::IndexRange);
+        return Verdict::Refused(Refusal::IndexRange);
     }
     if counter.len() != group.generators {
-        return Done::Refused(Refusal::ListLength);
+        return Verdict::Refused(Refusal::ListLength);
     }
     let targets = group.targets;
     let orders = group.orders;
@@ -162,7 +154,7 @@ pub fn counter_of(group: Group, index: usize, counter: &mut [u32]) -> Done
         index,
         counter,
     );
-    Done::Finished
+    Verdict::Accepted
 }
 
 // 19, then the inverse.
@@ -181,9 +173,9 @@ pub fn inverse_of(group: Group, index: usize) -> Number
 // The least word of an accepted word's orbit, and the index that leads from it back.
 pub fn least_of(group: Group, word: &[u8]) -> LeastWord
     requires { ⌜ AcceptedGroup group ⌝ }
-    requires { ⌜ AcceptedWord planeLength (group .sites) (now word) ⌝ }
-    ensures word { λ r. ⌜ r .word ≡ encode planeLength (least (generatorsOf group) (decode planeLength (group .sites) (now (word .entry)))) ⌝ }
-    ensures index { λ r. ⌜ r .index ≡ indexBack (generatorsOf group) (decode planeLength (group .sites) (now (word .entry))) ⌝ }
+    requires { ⌜ AcceptedWord (group .sites) (now word) ⌝ }
+    ensures word { λ r. ⌜ r .word ≡ bytesOf (least (generatorsOf group) (lettersIn (group .sites) (now (word .entry)))) ⌝ }
+    ensures index { λ r. ⌜ r .index ≡ indexBack (generatorsOf group) (lettersIn (group .sites) (now (word .entry))) ⌝ }
 {
     let targets = group.targets;
     let orders = group.orders;
@@ -210,14 +202,14 @@ pub fn least_of(group: Group, word: &[u8]) -> LeastWord
 // 21, then the least word with the counter of the index back.
 pub fn shift_of(group: Group, word: &[u8], counter: &mut [u32]) -> Canonical
     requires { ⌜ AcceptedGroup group ⌝ }
-    requires { ⌜ AcceptedWord planeLength (group .sites) (now word) ⌝ }
-    ensures answer { λ r. ⌜ outcomeOfDone (r .answer) ≡ onAnswer done (withShiftOutcome group (group .sites) (now (word .entry)) (length (now (counter .entry)))) ⌝ }
+    requires { ⌜ AcceptedWord (group .sites) (now word) ⌝ }
+    ensures answer { λ r. ⌜ outcomeOfVerdict (r .answer) ≡ onAnswer done (withShiftOutcome group (group .sites) (now (word .entry)) (length (now (counter .entry)))) ⌝ }
     ensures word { λ r. ⌜ r .word ≡ orElse wordOf noWord (withShiftOutcome group (group .sites) (now (word .entry)) (length (now (counter .entry)))) ⌝ }
     ensures counter { λ _. ⌜ now (counter .exit) ≡ orElse shiftOf (now (counter .entry)) (withShiftOutcome group (group .sites) (now (word .entry)) (length (now (counter .entry)))) ⌝ }
 {
     if counter.len() != group.generators {
         return Canonical {
-            answer: Done::Refused(Refusal::ListLength),
+            answer: Verdict::Refused(Refusal::ListLength),
             word: [0u8; WORD_BYTES],
         };
     }
@@ -234,21 +226,21 @@ pub fn shift_of(group: Group, word: &[u8], counter: &mut [u32]) -> Canonical
     );
     let least = found.word;
     Canonical {
-        answer: Done::Finished,
+        answer: Verdict::Accepted,
         word: least,
     }
 }
 
 // 21, then the orbit list.
-pub fn orbit_of(group: Group, word: &[u8], list: &mut [u8]) -> Done
+pub fn orbit_of(group: Group, word: &[u8], list: &mut [u8]) -> Verdict
     requires { ⌜ AcceptedGroup group ⌝ }
-    requires { ⌜ AcceptedWord planeLength (group .sites) (now word) ⌝ }
-    ensures answer { λ r. ⌜ outcomeOfDone r ≡ onAnswer done (orbitListOutcome group (group .sites) (now (word .entry)) (length (now (list .entry)))) ⌝ }
+    requires { ⌜ AcceptedWord (group .sites) (now word) ⌝ }
+    ensures answer { λ r. ⌜ outcomeOfVerdict r ≡ onAnswer done (orbitListOutcome group (group .sites) (now (word .entry)) (length (now (list .entry)))) ⌝ }
     ensures list { λ _. ⌜ now (list .exit) ≡ orElse encodeAll (now (list .entry)) (orbitListOutcome group (group .sites) (now (word .entry)) (length (now (list .entry)))) ⌝ }
 {
     let order = order_of(group);
     if list.len() != WORD_BYTES * order {
-        return Done::Refused(Refusal::ListLength);
+        return Verdict::Refused(Refusal::ListLength);
     }
     let targets = group.targets;
     let orders = group.orders;
@@ -261,7 +253,7 @@ pub fn orbit_of(group: Group, word: &[u8], list: &mut [u8]) -> Done
         word,
         list,
     );
-    Done::Finished
+    Verdict::Accepted
 }
 
 // The walk beside a refused beginning.
@@ -290,23 +282,23 @@ pub fn walk_from(group: Group, word: &[u8]) -> Walk
 }
 
 // The checks of a walk: 1, 14.
-pub fn walk_checked(walk: Walk) -> Pass
-    ensures { λ r. ⌜ verdictOfPass r ≡ verdict (siteCount (walk .group .sites) ∷ notAWalk walk ∷ []) ⌝ }
+pub fn walk_checked(walk: Walk) -> Verdict
+    ensures { λ r. ⌜ outcomeOfVerdict r ≡ verdict (siteCount (walk .group .sites) ∷ notAWalk walk ∷ []) ⌝ }
 {
     let group = walk.group;
     let word = walk.word;
     let sites = group.sites;
     match value::value_checked(group) {
-        Pass::Refused(why) => Pass::Refused(why),
-        Pass::Accepted => {
-            let pauli_word::inner::WordCheck::Accepted = pauli_word::inner::checked(sites, &word)
+        Verdict::Refused(why) => Verdict::Refused(why),
+        Verdict::Accepted => {
+            let Verdict::Accepted = pauli_word::inner::checked(sites, &word)
             else {
-                return Pass::Refused(Refusal::NotAGroup);
+                return Verdict::Refused(Refusal::InvalidValue);
             };
             if order_of(group) < walk.index {
-                Pass::Refused(Refusal::NotAGroup)
+                Verdict::Refused(Refusal::InvalidValue)
             } else {
-                Pass::Accepted
+                Verdict::Accepted
             }
         }
     }

@@ -9,19 +9,15 @@ pub mod value;
 ghost use mathlib.Core.Path.{_≡_};
 ghost use lib.ListN.{length};
 ghost use Rattle.pauli_word.specs.Limits.{planeLength};
-ghost use Rattle.pauli_word.specs.Outcome.{onAnswer, orElse};
+ghost use Rattle.outcome.specs.Outcome.{onAnswer, orElse};
 ghost use Rattle.pauli_word.specs.Bytes.{encode};
 ghost use Rattle.orbit.specs.Tables.{encodeAll};
 ghost use Rattle.group.specs.Value.{noGroup, tryFromOutcome};
-ghost use Rattle.group.specs.Calls.{done, itself, outcomeOfGrouped, outcomeOfLattice, outcomeOfNumber, outcomeOfDone, outcomeOfStep, chainOutcome, ladderOutcome, torus2Outcome, torus3Outcome, orderOutcome, modulusOutcome, counterOutcome, invertOutcome, canonicalizeOutcome, withIndexOutcome, withShiftOutcome, orbitListOutcome, noWord, beginOutcome, noWalk, nextOutcome, entryWord, afterEntry, wordOf, indexOf, shiftOf};
-use generators::GroupRefusal;
-use generators::lattice::Sides;
-use generators::list::Scan;
+ghost use Rattle.group.specs.Calls.{done, itself, outcomeOfVerdict, outcomeOfVerdict, outcomeOfNumber, outcomeOfVerdict, outcomeOfStep, chainOutcome, ladderOutcome, torus2Outcome, torus3Outcome, orderOutcome, modulusOutcome, counterOutcome, invertOutcome, canonicalizeOutcome, withIndexOutcome, withShiftOutcome, orbitListOutcome, noWord, beginOutcome, noWalk, nextOutcome, entryWord, afterEntry, wordOf, indexOf, shiftOf};
 use pauli_word::MAX_SITES;
 use pauli_word::WORD_BYTES;
 use permutation::MAX_GENERATORS;
 use permutation::TARGET_PLACES;
-use value::Pass;
 
 // A group by its generators: generator g's targets stand at 256 g, unused places are 0. Each call that takes one tests it first (14).
 pub struct Group {
@@ -33,12 +29,12 @@ pub struct Group {
 
 pub enum Grouped {
     Accepted,
-    Refused(GroupRefusal),
+    Refused(Refusal),
 }
 
 // The group stands beside the answer; beside a refusal stands a value that every call refuses.
 pub struct Made {
-    pub answer: Grouped,
+    pub answer: Verdict,
     pub group: Group,
 }
 
@@ -51,8 +47,8 @@ pub enum Lattice {
     SidesTooLarge,
 }
 
-pub struct LatticeMade {
-    pub answer: Lattice,
+pub struct Made {
+    pub answer: Verdict,
     pub group: Group,
 }
 
@@ -90,7 +86,7 @@ pub enum Done {
 
 // The least word beside its answer; zeros beside a refusal.
 pub struct Canonical {
-    pub answer: Done,
+    pub answer: Verdict,
     pub word: [u8; WORD_BYTES],
 }
 
@@ -108,7 +104,7 @@ pub struct Walk {
 }
 
 pub struct Begun {
-    pub answer: Done,
+    pub answer: Verdict,
     pub walk: Walk,
 }
 
@@ -129,33 +125,33 @@ pub struct Stepped {
 // The group of a buyer's generators: sites, the generators in one list, each its length and then its targets, and their orders.
 // Refusals 1 to 13, in that order. Costs work in proportion to sites times generators (for the pairs, times generators again).
 pub fn try_from_generators(sites: usize, list: &[u32], orders: &[u32]) -> Made
-    ensures answer { λ r. ⌜ outcomeOfGrouped (r .answer) ≡ onAnswer done (tryFromOutcome sites (now (list .entry)) (now (orders .entry))) ⌝ }
+    ensures answer { λ r. ⌜ outcomeOfVerdict (r .answer) ≡ onAnswer done (tryFromOutcome sites (now (list .entry)) (now (orders .entry))) ⌝ }
     ensures group { λ r. ⌜ r .group ≡ orElse itself noGroup (tryFromOutcome sites (now (list .entry)) (now (orders .entry))) ⌝ }
 {
     if MAX_SITES < sites {
-        return inner::refused(GroupRefusal::TooManySites);
+        return inner::refused(Refusal::TooManySites);
     }
-    let Scan::Count(count) = generators::list::count_generators(list) else {
-        return inner::refused(GroupRefusal::ListEndsInside);
+    let Number::Value(count) = generators::list::count_generators(list) else {
+        return inner::refused(Refusal::ListEndsInside);
     };
     if MAX_GENERATORS < count {
-        return inner::refused(GroupRefusal::TooManyGenerators);
+        return inner::refused(Refusal::TooManyGenerators);
     }
     if count != orders.len() {
-        return inner::refused(GroupRefusal::LengthMismatch(count, orders.len()));
+        return inner::refused(Refusal::LengthMismatch(count, orders.len()));
     }
     inner::made(sites, list, orders, count)
 }
 
 // A ring of n sites: site q moves to q + 1, round at the end.
-pub fn chain_1d(n: usize) -> LatticeMade
-    ensures answer { λ r. ⌜ outcomeOfLattice (r .answer) ≡ onAnswer done (chainOutcome n) ⌝ }
+pub fn chain_1d(n: usize) -> Made
+    ensures answer { λ r. ⌜ outcomeOfVerdict (r .answer) ≡ onAnswer done (chainOutcome n) ⌝ }
     ensures group { λ r. ⌜ r .group ≡ orElse itself noGroup (chainOutcome n) ⌝ }
 {
     match generators::lattice::sites_of(n, 1, 1) {
-        Sides::Zero => inner::no_lattice(Lattice::ZeroSide),
-        Sides::TooLarge => inner::no_lattice(Lattice::SidesTooLarge),
-        Sides::Sites(sites) => {
+        Number::Refused(Refusal::ZeroSide) => inner::no_lattice(Verdict::Refused(Refusal::ZeroSide)),
+        Number::Refused(Refusal::SidesTooLarge) => inner::no_lattice(Verdict::Refused(Refusal::SidesTooLarge)),
+        Number::Value(sites) => {
             let mut targets = [0u32; TARGET_PLACES];
             generators::lattice::fill_shift(&mut targets[..sites], 1, n);
             inner::lattice(sites, 1, [n as u32, 0, 0, 0], targets)
@@ -164,14 +160,14 @@ pub fn chain_1d(n: usize) -> LatticeMade
 }
 
 // Legs of l sites each, site j of a leg at leg * l + j: all legs shift together along their length.
-pub fn ladder(l: usize, legs: usize) -> LatticeMade
-    ensures answer { λ r. ⌜ outcomeOfLattice (r .answer) ≡ onAnswer done (ladderOutcome l legs) ⌝ }
+pub fn ladder(l: usize, legs: usize) -> Made
+    ensures answer { λ r. ⌜ outcomeOfVerdict (r .answer) ≡ onAnswer done (ladderOutcome l legs) ⌝ }
     ensures group { λ r. ⌜ r .group ≡ orElse itself noGroup (ladderOutcome l legs) ⌝ }
 {
     match generators::lattice::sites_of(l, legs, 1) {
-        Sides::Zero => inner::no_lattice(Lattice::ZeroSide),
-        Sides::TooLarge => inner::no_lattice(Lattice::SidesTooLarge),
-        Sides::Sites(sites) => {
+        Number::Refused(Refusal::ZeroSide) => inner::no_lattice(Verdict::Refused(Refusal::ZeroSide)),
+        Number::Refused(Refusal::SidesTooLarge) => inner::no_lattice(Verdict::Refused(Refusal::SidesTooLarge)),
+        Number::Value(sites) => {
             let mut targets = [0u32; TARGET_PLACES];
             generators::lattice::fill_shift(&mut targets[..sites], 1, l);
             inner::lattice(sites, 1, [l as u32, 0, 0, 0], targets)
@@ -180,14 +176,14 @@ pub fn ladder(l: usize, legs: usize) -> LatticeMade
 }
 
 // A torus of lx by ly sites, (i, j) at j * lx + i: the shifts of i and of j.
-pub fn torus_2d(lx: usize, ly: usize) -> LatticeMade
-    ensures answer { λ r. ⌜ outcomeOfLattice (r .answer) ≡ onAnswer done (torus2Outcome lx ly) ⌝ }
+pub fn torus_2d(lx: usize, ly: usize) -> Made
+    ensures answer { λ r. ⌜ outcomeOfVerdict (r .answer) ≡ onAnswer done (torus2Outcome lx ly) ⌝ }
     ensures group { λ r. ⌜ r .group ≡ orElse itself noGroup (torus2Outcome lx ly) ⌝ }
 {
     match generators::lattice::sites_of(lx, ly, 1) {
-        Sides::Zero => inner::no_lattice(Lattice::ZeroSide),
-        Sides::TooLarge => inner::no_lattice(Lattice::SidesTooLarge),
-        Sides::Sites(sites) => {
+        Number::Refused(Refusal::ZeroSide) => inner::no_lattice(Verdict::Refused(Refusal::ZeroSide)),
+        Number::Refused(Refusal::SidesTooLarge) => inner::no_lattice(Verdict::Refused(Refusal::SidesTooLarge)),
+        Number::Value(sites) => {
             let mut targets = [0u32; TARGET_PLACES];
             generators::lattice::fill_shift(&mut targets[..sites], 1, lx);
             let second = 256 + sites;
@@ -198,14 +194,14 @@ pub fn torus_2d(lx: usize, ly: usize) -> LatticeMade
 }
 
 // A torus of lx by ly by lz sites, (i, j, k) at k * lx * ly + j * lx + i: the shifts of i, of j and of k.
-pub fn torus_3d(lx: usize, ly: usize, lz: usize) -> LatticeMade
-    ensures answer { λ r. ⌜ outcomeOfLattice (r .answer) ≡ onAnswer done (torus3Outcome lx ly lz) ⌝ }
+pub fn torus_3d(lx: usize, ly: usize, lz: usize) -> Made
+    ensures answer { λ r. ⌜ outcomeOfVerdict (r .answer) ≡ onAnswer done (torus3Outcome lx ly lz) ⌝ }
     ensures group { λ r. ⌜ r .group ≡ orElse itself noGroup (torus3Outcome lx ly lz) ⌝ }
 {
     match generators::lattice::sites_of(lx, ly, lz) {
-        Sides::Zero => inner::no_lattice(Lattice::ZeroSide),
-        Sides::TooLarge => inner::no_lattice(Lattice::SidesTooLarge),
-        Sides::Sites(sites) => {
+        Number::Refused(Refusal::ZeroSide) => inner::no_lattice(Verdict::Refused(Refusal::ZeroSide)),
+        Number::Refused(Refusal::SidesTooLarge) => inner::no_lattice(Verdict::Refused(Refusal::SidesTooLarge)),
+        Number::Value(sites) => {
             let mut targets = [0u32; TARGET_PLACES];
             generators::lattice::fill_shift(&mut targets[..sites], 1, lx);
             let second = 256 + sites;
@@ -222,8 +218,8 @@ pub fn order(group: Group) -> Number
     ensures answer { λ r. ⌜ outcomeOfNumber r ≡ orderOutcome group ⌝ }
 {
     match value::value_checked(group) {
-        Pass::Refused(why) => Number::Refused(why),
-        Pass::Accepted => Number::Value(inner::order_of(group)),
+        Verdict::Refused(why) => Number::Refused(why),
+        Verdict::Accepted => Number::Value(inner::order_of(group)),
     }
 }
 
@@ -232,19 +228,19 @@ pub fn phase_modulus(group: Group) -> Number
     ensures answer { λ r. ⌜ outcomeOfNumber r ≡ modulusOutcome group ⌝ }
 {
     match value::value_checked(group) {
-        Pass::Refused(why) => Number::Refused(why),
-        Pass::Accepted => Number::Value(inner::modulus_of(group)),
+        Verdict::Refused(why) => Number::Refused(why),
+        Verdict::Accepted => Number::Value(inner::modulus_of(group)),
     }
 }
 
 // The digits of an index, generator 0 first, into a list with a place for each generator.
-pub fn counter_from_index(group: Group, index: usize, counter: &mut [u32]) -> Done
-    ensures answer { λ r. ⌜ outcomeOfDone r ≡ onAnswer done (counterOutcome group index (length (now (counter .entry)))) ⌝ }
+pub fn counter_from_index(group: Group, index: usize, counter: &mut [u32]) -> Verdict
+    ensures answer { λ r. ⌜ outcomeOfVerdict r ≡ onAnswer done (counterOutcome group index (length (now (counter .entry)))) ⌝ }
     ensures counter { λ _. ⌜ now (counter .exit) ≡ orElse itself (now (counter .entry)) (counterOutcome group index (length (now (counter .entry)))) ⌝ }
 {
     match value::value_checked(group) {
-        Pass::Refused(why) => Done::Refused(why),
-        Pass::Accepted => inner::counter_of(group, index, counter),
+        Verdict::Refused(why) => Verdict::Refused(why),
+        Verdict::Accepted => inner::counter_of(group, index, counter),
     }
 }
 
@@ -253,26 +249,26 @@ pub fn invert_index(group: Group, index: usize) -> Number
     ensures answer { λ r. ⌜ outcomeOfNumber r ≡ invertOutcome group index ⌝ }
 {
     match value::value_checked(group) {
-        Pass::Refused(why) => Number::Refused(why),
-        Pass::Accepted => inner::inverse_of(group, index),
+        Verdict::Refused(why) => Number::Refused(why),
+        Verdict::Accepted => inner::inverse_of(group, index),
     }
 }
 
 // The least word of a word's orbit. Walks the whole orbit.
 pub fn canonicalize(group: Group, n: usize, word: &[u8]) -> Canonical
-    ensures answer { λ r. ⌜ outcomeOfDone (r .answer) ≡ onAnswer done (canonicalizeOutcome group n (now (word .entry))) ⌝ }
-    ensures word { λ r. ⌜ r .word ≡ orElse (encode planeLength) noWord (canonicalizeOutcome group n (now (word .entry))) ⌝ }
+    ensures answer { λ r. ⌜ outcomeOfVerdict (r .answer) ≡ onAnswer done (canonicalizeOutcome group n (now (word .entry))) ⌝ }
+    ensures word { λ r. ⌜ r .word ≡ orElse bytesOf noWord (canonicalizeOutcome group n (now (word .entry))) ⌝ }
 {
     match value::word_call_checked(group, n, word) {
-        Pass::Refused(why) => Canonical {
-            answer: Done::Refused(why),
+        Verdict::Refused(why) => Canonical {
+            answer: Verdict::Refused(why),
             word: [0u8; WORD_BYTES],
         },
-        Pass::Accepted => {
+        Verdict::Accepted => {
             let least = inner::least_of(group, word);
             let found = least.word;
             Canonical {
-                answer: Done::Finished,
+                answer: Verdict::Accepted,
                 word: found,
             }
         }
@@ -285,11 +281,11 @@ pub fn canonicalize_with_index(group: Group, n: usize, word: &[u8]) -> Canonical
     ensures word { λ r. ⌜ r .word ≡ orElse wordOf noWord (withIndexOutcome group n (now (word .entry))) ⌝ }
 {
     match value::word_call_checked(group, n, word) {
-        Pass::Refused(why) => CanonicalIndex {
+        Verdict::Refused(why) => CanonicalIndex {
             answer: Number::Refused(why),
             word: [0u8; WORD_BYTES],
         },
-        Pass::Accepted => {
+        Verdict::Accepted => {
             let least = inner::least_of(group, word);
             let found = least.word;
             CanonicalIndex {
@@ -307,42 +303,42 @@ pub fn canonicalize_with_shift(
     word: &[u8],
     counter: &mut [u32],
 ) -> Canonical
-    ensures answer { λ r. ⌜ outcomeOfDone (r .answer) ≡ onAnswer done (withShiftOutcome group n (now (word .entry)) (length (now (counter .entry)))) ⌝ }
+    ensures answer { λ r. ⌜ outcomeOfVerdict (r .answer) ≡ onAnswer done (withShiftOutcome group n (now (word .entry)) (length (now (counter .entry)))) ⌝ }
     ensures word { λ r. ⌜ r .word ≡ orElse wordOf noWord (withShiftOutcome group n (now (word .entry)) (length (now (counter .entry)))) ⌝ }
     ensures counter { λ _. ⌜ now (counter .exit) ≡ orElse shiftOf (now (counter .entry)) (withShiftOutcome group n (now (word .entry)) (length (now (counter .entry)))) ⌝ }
 {
     match value::word_call_checked(group, n, word) {
-        Pass::Refused(why) => Canonical {
-            answer: Done::Refused(why),
+        Verdict::Refused(why) => Canonical {
+            answer: Verdict::Refused(why),
             word: [0u8; WORD_BYTES],
         },
-        Pass::Accepted => inner::shift_of(group, word, counter),
+        Verdict::Accepted => inner::shift_of(group, word, counter),
     }
 }
 
 // The orbit list: the bytes of one entry for each index, repeats included, into a list of 64 times the order.
-pub fn orbit_list(group: Group, n: usize, word: &[u8], list: &mut [u8]) -> Done
-    ensures answer { λ r. ⌜ outcomeOfDone r ≡ onAnswer done (orbitListOutcome group n (now (word .entry)) (length (now (list .entry)))) ⌝ }
+pub fn orbit_list(group: Group, n: usize, word: &[u8], list: &mut [u8]) -> Verdict
+    ensures answer { λ r. ⌜ outcomeOfVerdict r ≡ onAnswer done (orbitListOutcome group n (now (word .entry)) (length (now (list .entry)))) ⌝ }
     ensures list { λ _. ⌜ now (list .exit) ≡ orElse encodeAll (now (list .entry)) (orbitListOutcome group n (now (word .entry)) (length (now (list .entry)))) ⌝ }
 {
     match value::word_call_checked(group, n, word) {
-        Pass::Refused(why) => Done::Refused(why),
-        Pass::Accepted => inner::orbit_of(group, word, list),
+        Verdict::Refused(why) => Verdict::Refused(why),
+        Verdict::Accepted => inner::orbit_of(group, word, list),
     }
 }
 
 // Begins a walk over a word's orbit; a refused beginning hands back a walk that `next` refuses.
 pub fn orbit(group: Group, n: usize, word: &[u8]) -> Begun
-    ensures answer { λ r. ⌜ outcomeOfDone (r .answer) ≡ onAnswer done (beginOutcome group n (now (word .entry))) ⌝ }
+    ensures answer { λ r. ⌜ outcomeOfVerdict (r .answer) ≡ onAnswer done (beginOutcome group n (now (word .entry))) ⌝ }
     ensures walk { λ r. ⌜ r .walk ≡ orElse itself noWalk (beginOutcome group n (now (word .entry))) ⌝ }
 {
     match value::word_call_checked(group, n, word) {
-        Pass::Refused(why) => Begun {
-            answer: Done::Refused(why),
+        Verdict::Refused(why) => Begun {
+            answer: Verdict::Refused(why),
             walk: inner::no_walk(),
         },
-        Pass::Accepted => Begun {
-            answer: Done::Finished,
+        Verdict::Accepted => Begun {
+            answer: Verdict::Accepted,
             walk: inner::walk_from(group, word),
         },
     }
@@ -356,12 +352,12 @@ impl Walk {
         ensures walk { λ r. ⌜ r .walk ≡ orElse (afterEntry self) self (nextOutcome self) ⌝ }
     {
         match inner::walk_checked(self) {
-            Pass::Refused(why) => Stepped {
+            Verdict::Refused(why) => Stepped {
                 answer: Step::Refused(why),
                 word: [0u8; WORD_BYTES],
                 walk: self,
             },
-            Pass::Accepted => inner::step_of(self),
+            Verdict::Accepted => inner::step_of(self),
         }
     }
 }

@@ -2,12 +2,11 @@
 ghost use mathlib.Core.Path.{_≡_};
 ghost use Prim.Native.Nat.{_≤_};
 ghost use Rattle.pauli_word.specs.Limits.{maxSites};
-ghost use Rattle.pauli_word.specs.Outcome.{verdict};
+ghost use Rattle.outcome.specs.Outcome.{verdict};
 ghost use Rattle.group.specs.Value.{isGroup};
 ghost use Rattle.group.specs.Calls.{valueChecks, wordCallChecks};
-ghost use Rattle.group.specs.Parts.{verdictOfPass};
+ghost use Rattle.group.specs.Parts.{outcomeOfVerdict};
 use crate::Group;
-use crate::Refusal;
 
 // What the checks of a value come to.
 pub enum Pass {
@@ -26,42 +25,42 @@ pub fn is_group(group: Group) -> bool
 }
 
 // The checks of a group value: 1, 14.
-pub fn value_checked(group: Group) -> Pass
-    ensures { λ r. ⌜ verdictOfPass r ≡ verdict (valueChecks group) ⌝ }
+pub fn value_checked(group: Group) -> Verdict
+    ensures { λ r. ⌜ outcomeOfVerdict r ≡ verdict (valueChecks group) ⌝ }
 {
     let sites = group.sites;
     if pauli_word::MAX_SITES < sites {
-        return Pass::Refused(Refusal::TooManySites);
+        return Verdict::Refused(Refusal::TooManySites);
     }
     if is_group(group) {
-        Pass::Accepted
+        Verdict::Accepted
     } else {
-        Pass::Refused(Refusal::NotAGroup)
+        Verdict::Refused(Refusal::InvalidValue)
     }
 }
 
 // The checks of a group value and a word: 1, 14, 15, 16, 17.
-pub fn word_call_checked(group: Group, n: usize, word: &[u8]) -> Pass
-    ensures { λ r. ⌜ verdictOfPass r ≡ verdict (wordCallChecks group n (now (word .entry))) ⌝ }
+pub fn word_call_checked(group: Group, n: usize, word: &[u8]) -> Verdict
+    ensures { λ r. ⌜ outcomeOfVerdict r ≡ verdict (wordCallChecks group n (now (word .entry))) ⌝ }
 {
     let sites = group.sites;
     if pauli_word::MAX_SITES < sites {
-        return Pass::Refused(Refusal::TooManySites);
+        return Verdict::Refused(Refusal::TooManySites);
     }
     if pauli_word::MAX_SITES < n {
-        return Pass::Refused(Refusal::TooManySites);
+        return Verdict::Refused(Refusal::TooManySites);
     }
     if !is_group(group) {
-        return Pass::Refused(Refusal::NotAGroup);
+        return Verdict::Refused(Refusal::InvalidValue);
     }
     if word.len() != pauli_word::WORD_BYTES {
-        return Pass::Refused(Refusal::WordLength);
+        return Verdict::Refused(Refusal::WordLength);
     }
     if n != sites {
-        return Pass::Refused(Refusal::OtherSites);
+        return Verdict::Refused(Refusal::OtherSites);
     }
     match pauli_word::inner::checked(n, word) {
-        pauli_word::inner::WordCheck::Accepted => Pass::Accepted,
-        pauli_word::inner::WordCheck::Refused(_) => Pass::Refused(Refusal::BitAboveSites),
+        Verdict::Accepted => Verdict::Accepted,
+        Verdict::Refused(_) => Verdict::Refused(Refusal::BitAboveSites),
     }
 }

@@ -1,7 +1,4 @@
 // The answers of calls that take a group: a number, done, or a refusal by its number. Names with `_on` end no line.
-use group::Done;
-use group::Number;
-use group::Refusal;
 
 pub fn number(n: Number) {
     number_on(n);
@@ -22,8 +19,8 @@ pub fn done(d: Done) {
 
 pub fn done_on(d: Done) {
     match d {
-        Done::Finished => crate::text(b"done"),
-        Done::Refused(why) => one(rule(why)),
+        Verdict::Accepted => crate::text(b"done"),
+        Verdict::Refused(why) => one(rule(why)),
     }
 }
 
@@ -37,7 +34,7 @@ pub fn one(rule: usize) {
 pub fn rule(why: Refusal) -> usize {
     match why {
         Refusal::TooManySites => 1,
-        Refusal::NotAGroup => 14,
+        Refusal::InvalidValue => 14,
         Refusal::WordLength => 15,
         Refusal::OtherSites => 16,
         Refusal::BitAboveSites => 17,

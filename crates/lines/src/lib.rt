@@ -2,7 +2,6 @@
 pub mod answers;
 
 use libc::STDOUT_FILENO;
-use pauli_word::Spelled;
 
 pub fn text(bytes: &[u8]) {
     io::write_all(STDOUT_FILENO, bytes);
@@ -38,7 +37,7 @@ pub fn spell(n: usize, word: &[u8]) {
     let r = pauli_word::to_text(n, word);
     let answer = r.answer;
     let letters = r.text;
-    if let Spelled::Letters(k) = answer {
+    if let Number::Value(k) = answer {
         first(&letters, k);
     }
 }

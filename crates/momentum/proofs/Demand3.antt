@@ -12,7 +12,7 @@ use native.Mathlib.Omega.{arith}
 use lib.IntN.{ℤ, pos}
 use lib.ListN.{length, getD}
 use Rattle.pauli_word.specs.Limits.{planeLength}
-use Rattle.pauli_word.specs.Outcome.{answer}
+use Rattle.outcome.specs.Outcome.{answer}
 use Rattle.pauli_word.specs.Word.{Word}
 use Rattle.pauli_word.specs.Bytes.{decode, AcceptedWord}
 use Rattle.pauli_word.proofs.Words.{decode-length}
@@ -49,7 +49,7 @@ module _ (g : Group) where
   n = g .sites
 
   abbrev w : List ℕ → Word
-  w bytes = decode planeLength n bytes
+  w bytes = lettersIn n bytes
 
   module _ (given : GivenBy g) where
     -- ---- The first sentence: canonicalize_with_index answers every accepted word, and its answer is the least word of the orbit with an index that
@@ -57,13 +57,13 @@ module _ (g : Group) where
     -- (`inOrbit`), and no word of the orbit is less (`noneLess`); the index is the inverse (`inverted`) of an index below the group order (`below`)
     -- that reaches the word (`reaches`), which no earlier index does (`noneEarlier`); and the index leads from the word back to w bytes (`leadsBack`)
 
-    pub least-word : (bytes : List ℕ) → AcceptedWord planeLength n bytes → CanonicalAnswer gs (w bytes) (withIndexOutcome g n bytes)
+    pub least-word : (bytes : List ℕ) → AcceptedWord n bytes → CanonicalAnswer gs (w bytes) (withIndexOutcome g n bytes)
     least-word = canonical-answer g (given-group g given) (Given.given-long g given)
 
     -- ---- The second sentence: of all reduced mode lists, exactly as many make canonicalize_in_sector keep a word as its orbit has different words
 
     pub kept-lists :
-        (bytes : List ℕ) → AcceptedWord planeLength n bytes → (counter : List ℕ) → length counter ≡ g .generators
+        (bytes : List ℕ) → AcceptedWord n bytes → (counter : List ℕ) → length counter ≡ g .generators
         → count (λ ks. isKept (sectorOutcome g n bytes ks (length counter))) (allModes gs) ≡ length (orbit gs (w bytes))
     kept-lists bytes word counter room = Kept.kept-lists g given (length counter) room bytes word
 
@@ -93,13 +93,13 @@ module _ (g : Group) where
         (j, e, omega (arith, l, Given.given-small g given))
 
     -- the accepted words
-    pub words-all : (bytes : List ℕ) → Member bytes (acceptedWords n) ↔ AcceptedWord planeLength n bytes
+    pub words-all : (bytes : List ℕ) → Member bytes (acceptedWords n) ↔ AcceptedWord n bytes
     words-all = Words.accepted-all n (Given.given-sites g given)
 
     pub words-once : NoRepeats (acceptedWords n)
     words-once = Words.accepted-once n (Given.given-sites g given)
 
-    module _ (bytes : List ℕ) (word : AcceptedWord planeLength n bytes) where
+    module _ (bytes : List ℕ) (word : AcceptedWord n bytes) where
       -- the words that the indices below the group order reach from a word
       pub orbit-all : (u : Word) → (isIn u (orbit gs (w bytes)) ≡ true) ↔ ((i : ℕ) × (i < orderOf gs) × (u ≡ reach gs i (w bytes)))
       orbit-all = Kept.orbit-all gs (w bytes)

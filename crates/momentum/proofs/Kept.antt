@@ -11,7 +11,7 @@ use lib.IntN.{ℤ}
 use lib.ListN.{length}
 use borrow.Author.Tests.{ne-eqb, eqb-false}
 use Rattle.pauli_word.specs.Limits.{planeLength}
-use Rattle.pauli_word.specs.Outcome.{answer}
+use Rattle.outcome.specs.Outcome.{answer}
 use Rattle.pauli_word.specs.Word.{Word}
 use Rattle.pauli_word.specs.Bytes.{decode, encode, AcceptedWord}
 use Rattle.pauli_word.proofs.Checks.{call-answers}
@@ -100,9 +100,9 @@ module _ (g : Group) where
 
     -- ---- an accepted word
 
-    module _ (bytes : List ℕ) (word : AcceptedWord planeLength n bytes) where
+    module _ (bytes : List ℕ) (word : AcceptedWord n bytes) where
       abbrev w : Word
-      w = decode planeLength n bytes
+      w = lettersIn n bytes
 
       pub index-answer : withIndexOutcome g n bytes ≡ answer (least gs w, indexBack gs w)
       unfolding withIndexOutcome
@@ -146,15 +146,15 @@ module _ (g : Group) where
     -- ---- counts, with a place of the counter for each generator
 
     module _ (k : ℕ) (room : k ≡ g .generators) where
-      count-keeps : (bytes : List ℕ) → AcceptedWord planeLength n bytes
-          → count (λ ks. isKept (sectorOutcome g n bytes ks k)) (allModes gs) ≡ keptLists (keeps gs) gs (decode planeLength n bytes)
+      count-keeps : (bytes : List ℕ) → AcceptedWord n bytes
+          → count (λ ks. isKept (sectorOutcome g n bytes ks k)) (allModes gs) ≡ keptLists (keeps gs) gs (lettersIn n bytes)
       unfolding keptLists
       count-keeps bytes word =
           count-cong _ _ (allModes gs) (λ ks m. kept-keeps bytes word ks (modes-length gs ks m ∙ given-length g given) k room)
 
-      pub kept-lists : (bytes : List ℕ) → AcceptedWord planeLength n bytes
-          → count (λ ks. isKept (sectorOutcome g n bytes ks k)) (allModes gs) ≡ length (orbit gs (decode planeLength n bytes))
-      kept-lists bytes word = count-keeps bytes word ∙ Action.keeps-lists valid (decode planeLength n bytes) (decode-length word)
+      pub kept-lists : (bytes : List ℕ) → AcceptedWord n bytes
+          → count (λ ks. isKept (sectorOutcome g n bytes ks k)) (allModes gs) ≡ length (orbit gs (lettersIn n bytes))
+      kept-lists bytes word = count-keeps bytes word ∙ Action.keeps-lists valid (lettersIn n bytes) (decode-length word)
 
       -- whether the calls answer that bytes are their own least word, and that the modes keep it
       abbrev keptOwn : List ℤ → List ℕ → Bool
@@ -163,19 +163,19 @@ module _ (g : Group) where
       -- of the bytes of a word
       module _ (v : Word) (letters : length v ≡ n) where
         abbrev coded : List ℕ
-        coded = encode planeLength v
+        coded = bytesOf v
 
-        word : AcceptedWord planeLength n coded
+        word : AcceptedWord n coded
         word = encoded-accepted planeLength v letters (given-sites g given) refl
 
-        decoded : decode planeLength n coded ≡ v
-        decoded = encoded-decode planeLength v letters (given-sites g given) refl
+        decoded : lettersIn n coded ≡ v
+        decoded = encoded-lettersIn v letters (given-sites g given) refl
 
         own : isOwn coded (withIndexOutcome g n coded) ≡ isRepresentative gs v
         unfolding isRepresentative
         own =
             ap (isOwn coded) (index-answer coded word)
-            ∙ rw decoded (sameBytes-encode planeLength n (given-sites g given) (least gs v) v (least-length valid v ∙ letters) letters)
+            ∙ rw decoded (sameBytes-bytesOf n (given-sites g given) (least gs v) v (least-length valid v ∙ letters) letters)
 
         count-own : count (λ ks. keptOwn ks coded) (allModes gs) ≡ cond (isRepresentative gs v) (keptLists (keeps gs) gs v) 0
         count-own =
@@ -186,7 +186,7 @@ module _ (g : Group) where
       unfolding acceptedWords keptPairs representatives
       pairs-by-words =
           count-pairs (λ p. keptOwn (p .0) (p .1)) (allModes gs) (acceptedWords n)
-          ∙ total-map (λ bytes. count (λ ks. keptOwn ks bytes) (allModes gs)) (encode planeLength) (allWords n)
+          ∙ total-map (λ bytes. count (λ ks. keptOwn ks bytes) (allModes gs)) bytesOf (allWords n)
           ∙ total-cong _ _ (allWords n) (λ v m. count-own v (words-long n v m))
           ∙ sym (total-select (keptLists (keeps gs) gs) (isRepresentative gs) (allWords n))
 

@@ -7,7 +7,7 @@ use mathlib.Core.List.{List, [], _∷_, _++_, map}
 use lib.IntN.{ℤ}
 use lib.ListN.{length, getD, length-map}
 use Rattle.pauli_word.specs.Limits.{planeLength}
-use Rattle.pauli_word.specs.Outcome.{answer}
+use Rattle.outcome.specs.Outcome.{answer}
 use Rattle.pauli_word.specs.Bytes.{decode}
 use Rattle.action.specs.Lists.{from, below, Member}
 use Rattle.action.specs.Permutation.{Generator}
@@ -72,7 +72,7 @@ module _ (g : Group) where
 
     pub sector-reduced : (n : ℕ) (bytes : List ℕ) (k : ℕ) → sectorOutcome g n bytes ks k ≡ sectorOutcome g n bytes (reducedModes gs ks) k
     unfolding sectorOutcome decision
-    sector-reduced n bytes k = rw (same-count, keeps-reduced gs ks (decode planeLength n bytes))
+    sector-reduced n bytes k = rw (same-count, keeps-reduced gs ks (lettersIn n bytes))
 
     pub table-answer : (k : ℕ) → k ≡ orderOf gs → tableOutcome g ks k ≡ answer (numerators gs ks)
     table-answer = Outcomes.table-answer g (given-accepted g given) ks modes

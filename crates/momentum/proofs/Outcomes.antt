@@ -10,7 +10,7 @@ use lib.IntN.{ℤ}
 use lib.ListN.{length}
 use borrow.Author.Tests.{leb-true, le-ltb, eq-eqb, ne-eqb}
 use Rattle.pauli_word.specs.Limits.{maxSites, planeLength, wordLength}
-use Rattle.pauli_word.specs.Outcome.{refused, answer, verdict}
+use Rattle.outcome.specs.Outcome.{refused, answer, verdict}
 use Rattle.pauli_word.specs.Word.{Word}
 use Rattle.pauli_word.specs.Bytes.{decode, encode, AcceptedWord}
 use Rattle.action.specs.Permutation.{Generator}
@@ -18,7 +18,7 @@ use Rattle.action.specs.Index.{orderOf, digits}
 use Rattle.action.specs.Orbit.{least, indexBack, orbitSize}
 use Rattle.action.specs.Sector.{numerator, keeps}
 use Rattle.group.specs.declared.Group.{Group}
-use Rattle.group.specs.declared.Refusal.{Refusal}
+use Rattle.outcome.specs.declared.Refusal.{Refusal}
 use Rattle.group.specs.Value.{generatorsOf, AcceptedGroup}
 use Rattle.group.specs.Calls.{refusalOf, listLength, wordCallChecks}
 use Rattle.group.proofs.CallLaws.{call-refused, front-refused}
@@ -73,17 +73,17 @@ pub sector-refused :
 unfolding sectorOutcome
 sector-refused g n bytes ks k why e =
     let more = modeCount g ks ∷ listLength k (g .generators) ∷ [] in
-    call-refused (wordCallChecks g n bytes ++ more) (answer (decision (generatorsOf g) ks (decode planeLength n bytes))) why
+    call-refused (wordCallChecks g n bytes ++ more) (answer (decision (generatorsOf g) ks (lettersIn n bytes))) why
     (front-refused (wordCallChecks g n bytes) more why e)
 
 -- ---- a sector call for an accepted group and word: 18, 21, or its decision
 
-module _ (g : Group) (ok : AcceptedGroup g) (bytes : List ℕ) (word : AcceptedWord planeLength (g .sites) bytes) (ks : List ℤ) (k : ℕ) where
+module _ (g : Group) (ok : AcceptedGroup g) (bytes : List ℕ) (word : AcceptedWord (g .sites) bytes) (ks : List ℤ) (k : ℕ) where
   abbrev gs : List Generator
   gs = generatorsOf g
 
   abbrev w : Word
-  w = decode planeLength (g .sites) bytes
+  w = lettersIn (g .sites) bytes
 
   long : eqb (length bytes) wordLength ≡ true
   long = eq-eqb (length bytes) wordLength (word .long)
@@ -122,13 +122,13 @@ module _ (g : Group) (ok : AcceptedGroup g) (bytes : List ℕ) (word : AcceptedW
       pub sector-kept :
           {i size : ℕ} → placement gs ks w ≡ Placement.Kept i size
           → (sectorOutcome g (g .sites) bytes ks k ≡ answer (kept (record { word = least gs w; counter = digits gs i; size = size })))
-          × (placementWord gs ks w ≡ encode planeLength (least gs w))
+          × (placementWord gs ks w ≡ bytesOf (least gs w))
       unfolding decision
       sector-kept {i} {size} e = go (keeps gs ks w) refl e
         where
           go : (b : Bool) → keeps gs ks w ≡ b → cond b (Placement.Kept (indexBack gs w) (orbitSize gs w)) Placement.Dropped ≡ Placement.Kept i size
               → (sectorOutcome g (g .sites) bytes ks k ≡ answer (kept (record { word = least gs w; counter = digits gs i; size = size })))
-              × (placementWord gs ks w ≡ encode planeLength (least gs w))
+              × (placementWord gs ks w ≡ bytesOf (least gs w))
           go true t h =
               let index : indexBack gs w ≡ i = cc in
               let same : orbitSize gs w ≡ size = cc in

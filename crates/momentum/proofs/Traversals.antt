@@ -98,21 +98,21 @@ module _ (gs : List Generator) (ks : List ℤ) (w : Word) (i : ℕ) where
       go false t e = let z : _≡_ {A = ℕ} 0 1 = cc in absurd (omega arith)
 
 -- comparing the bytes that an index reaches with the word's says whether it fixes the word
-module _ {k n : ℕ} {targets orders : List ℕ} (t : Tables k n targets orders) {word : List ℕ} (ok : AcceptedWord planeLength n word)
-    (i : ℕ) {here : List ℕ} (e : here ≡ encode planeLength (reach (generatorsIn k n targets orders) i (decode planeLength n word)))
+module _ {k n : ℕ} {targets orders : List ℕ} (t : Tables k n targets orders) {word : List ℕ} (ok : AcceptedWord n word)
+    (i : ℕ) {here : List ℕ} (e : here ≡ bytesOf (reach (generatorsIn k n targets orders) i (lettersIn n word)))
     {o : Ordering} (eo : o ≡ orderOfBits (planeBits here) (planeBits word)) where
   abbrev gs : List Generator
   gs = generatorsIn k n targets orders
 
   abbrev w : Word
-  w = decode planeLength n word
+  w = lettersIn n word
 
-  accepted : AcceptedWord planeLength n here
+  accepted : AcceptedWord n here
   accepted = walk-accepted t w (decode-length ok) i e
 
-  reached : same (decode planeLength n here) w ≡ fixes gs w i
+  reached : same (lettersIn n here) w ≡ fixes gs w i
   unfolding fixes
-  reached = ap (λ (u : Word). same u w) (encoded-decode planeLength (reach gs i w) (reach-length gs i w ∙ decode-length ok) (t .sites) e)
+  reached = ap (λ (u : Word). same u w) (encoded-lettersIn (reach gs i w) (reach-length gs i w ∙ decode-length ok) (t .sites) e)
 
   pub bytes-fixed : o ≡ Same → fixes gs w i ≡ true
   bytes-fixed h = sym reached ∙ same-taken accepted ok eo h
@@ -163,7 +163,7 @@ module _ (gs : List Generator) (ks : List ℤ) (w : Word) where
       pub traversal-kept : {j : ℕ} → j ≡ forward gs w → Traversal.Kept j k ≡ traversal gs ks w
       traversal-kept h = rw all-kept (ap₂ Traversal.Kept h all-fixing)
 
-      pub word-kept : encode planeLength (least gs w) ≡ placementWord gs ks w
+      pub word-kept : bytesOf (least gs w) ≡ placementWord gs ks w
       word-kept = rw all-kept
 
   -- an index that breaks

@@ -46,20 +46,20 @@ module _ (m n : ℕ) (few : n ≤ 8 * m) (v w : Word) (longV : length v ≡ n) (
 -- the list of the accepted words
 
 module _ (n : ℕ) (few : n ≤ maxSites) where
-  pub accepted-all : (bytes : List ℕ) → Member bytes (acceptedWords n) ↔ AcceptedWord planeLength n bytes
+  pub accepted-all : (bytes : List ℕ) → Member bytes (acceptedWords n) ↔ AcceptedWord n bytes
   unfolding acceptedWords
   accepted-all bytes = (
     λ m.
-        let r : (w : Word) × Member w (allWords n) × (bytes ≡ encode planeLength w) = of-member-map (encode planeLength) (allWords n) bytes m in
+        let r : (w : Word) × Member w (allWords n) × (bytes ≡ bytesOf w) = of-member-map bytesOf (allWords n) bytes m in
         encoded-accepted planeLength (r .0) (words-long n (r .0) (r .1)) few (r .2),
     λ ok.
         rw (← encode-decode ok)
-        (member-map (encode planeLength) (allWords n) (decode planeLength n bytes) (words-all n (decode planeLength n bytes) (decode-length ok))),
+        (member-map bytesOf (allWords n) (lettersIn n bytes) (words-all n (lettersIn n bytes) (decode-length ok))),
   )
 
   pub accepted-once : NoRepeats (acceptedWords n)
   unfolding acceptedWords
   accepted-once =
-      noRepeats-map (encode planeLength) (allWords n)
+      noRepeats-map bytesOf (allWords n)
       (λ v w h k e. encode-injective planeLength n few v w (words-long n v h) (words-long n w k) e)
       (words-noRepeats n)

@@ -6,7 +6,7 @@ use lib.Dec.{eqb}
 use lib.IntN.{ℤ}
 use lib.ListN.{length}
 use Rattle.pauli_word.specs.Limits.{planeLength}
-use Rattle.pauli_word.specs.Outcome.{Outcome, answer, Check, unless}
+use Rattle.outcome.specs.Outcome.{Outcome, answer, Check, unless}
 use Rattle.pauli_word.specs.Word.{Word}
 use Rattle.pauli_word.specs.Bytes.{decode, encode}
 use Rattle.action.specs.Lists.{below}
@@ -62,7 +62,7 @@ decision gs ks w = cond (keeps gs ks w) (kept (record { word = least gs w; count
 unfoldable pub sectorOutcome : Group → ℕ → List ℕ → List ℤ → ℕ → Outcome (Decision Row)
 sectorOutcome g n bytes ks k =
     unless (wordCallChecks g n bytes ++ (modeCount g ks ∷ listLength k (g .generators) ∷ []))
-    (answer (decision (generatorsOf g) ks (decode planeLength n bytes)))
+    (answer (decision (generatorsOf g) ks (lettersIn n bytes)))
 
 -- `Kept` carries the orbit size
 abbrev pub outcomeOfSector : Sector → Outcome (Decision ℕ)
@@ -76,7 +76,7 @@ sizeOf dropped = dropped
 
 -- the word beside the answer: zeros beside a dropped one
 abbrev pub rowWord : Decision Row → List ℕ
-rowWord (kept r) = encode planeLength (r .word)
+rowWord (kept r) = bytesOf (r .word)
 rowWord dropped = noWord
 
 -- the counter list afterwards: as it was where the word is dropped

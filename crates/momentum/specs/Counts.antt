@@ -4,7 +4,7 @@ use mathlib.Core.Bool.{Bool, true, false, _&&_}
 use mathlib.Core.List.{List, [], _∷_, _++_, map}
 use lib.Dec.{eqb}
 use Rattle.pauli_word.specs.Limits.{planeLength}
-use Rattle.pauli_word.specs.Outcome.{Outcome, refused, answer}
+use Rattle.outcome.specs.Outcome.{Outcome, refused, answer}
 use Rattle.pauli_word.specs.Word.{Word}
 use Rattle.pauli_word.specs.Bytes.{encode}
 use Rattle.action.specs.Count.{allWords}
@@ -14,7 +14,7 @@ use Rattle.momentum.specs.Calls.{Decision, kept, dropped, Row}
 -- the accepted words of n sites, as their bytes
 unfoldable pub acceptedWords : ℕ → List (List ℕ)
 unfolding allWords
-acceptedWords n = map (encode planeLength) (allWords n)
+acceptedWords n = map bytesOf (allWords n)
 
 -- whether two lists of bytes are the same
 unfoldable pub sameBytes : List ℕ → List ℕ → Bool

@@ -32,4 +32,4 @@ placement gs ks w = cond (keeps gs ks w) (Placement.Kept (indexBack gs w) (orbit
 
 -- the word beside either: the least word, or zeros
 abbrev pub placementWord : List Generator → List ℤ → Word → List ℕ
-placementWord gs ks w = cond (keeps gs ks w) (encode planeLength (least gs w)) noWord
+placementWord gs ks w = cond (keeps gs ks w) (bytesOf (least gs w)) noWord

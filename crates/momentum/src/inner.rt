@@ -2,10 +2,10 @@
 ghost use mathlib.Core.Path.{_≡_};
 ghost use lib.ListN.{length};
 ghost use Rattle.pauli_word.specs.Limits.{planeLength};
-ghost use Rattle.pauli_word.specs.Outcome.{onAnswer, orElse};
+ghost use Rattle.outcome.specs.Outcome.{onAnswer, orElse};
 ghost use Rattle.pauli_word.specs.Bytes.{decode, AcceptedWord};
 ghost use Rattle.group.specs.Value.{generatorsOf, AcceptedGroup};
-ghost use Rattle.group.specs.Calls.{done, itself, noWord, outcomeOfNumber, outcomeOfDone};
+ghost use Rattle.group.specs.Calls.{done, itself, noWord, outcomeOfNumber, outcomeOfVerdict};
 ghost use Rattle.momentum.specs.Calls.{numeratorOutcome, tableOutcome, sectorOutcome, outcomeOfSector, sizeOf, rowWord, rowCounter};
 ghost use Rattle.momentum.specs.Parts.{placement, placementWord};
 use crate::InSector;
@@ -13,10 +13,7 @@ use crate::Sector;
 use crate::phase;
 use crate::stabilizer;
 use crate::stabilizer::Traversal;
-use group::Done;
 use group::Group;
-use group::Number;
-use group::Refusal;
 use pauli_word::WORD_BYTES;
 
 // 18, 20, then the numerator of a counter.
@@ -45,16 +42,16 @@ pub fn numerator_of(group: Group, modes: &[i32], counter: &[u32]) -> Number
 }
 
 // 18, 21, then the numerators of all indices.
-pub fn table_of(group: Group, modes: &[i32], list: &mut [usize]) -> Done
+pub fn table_of(group: Group, modes: &[i32], list: &mut [usize]) -> Verdict
     requires { ⌜ AcceptedGroup group ⌝ }
-    ensures answer { λ r. ⌜ outcomeOfDone r ≡ onAnswer done (tableOutcome group (now (modes .entry)) (length (now (list .entry)))) ⌝ }
+    ensures answer { λ r. ⌜ outcomeOfVerdict r ≡ onAnswer done (tableOutcome group (now (modes .entry)) (length (now (list .entry)))) ⌝ }
     ensures list { λ _. ⌜ now (list .exit) ≡ orElse itself (now (list .entry)) (tableOutcome group (now (modes .entry)) (length (now (list .entry)))) ⌝ }
 {
     if modes.len() != group.generators {
-        return Done::Refused(Refusal::ModeCount);
+        return Verdict::Refused(Refusal::ModeCount);
     }
     if list.len() != group::inner::order_of(group) {
-        return Done::Refused(Refusal::ListLength);
+        return Verdict::Refused(Refusal::ListLength);
     }
     let modulus = group::inner::modulus_of(group);
     let targets = group.targets;
@@ -68,7 +65,7 @@ pub fn table_of(group: Group, modes: &[i32], list: &mut [usize]) -> Done
         modes,
         list,
     );
-    Done::Finished
+    Verdict::Accepted
 }
 
 // An answer without a word.
@@ -84,7 +81,7 @@ pub fn no_row(answer: Sector) -> InSector
 // 18, 21, then the decision.
 pub fn sector_of(group: Group, word: &[u8], modes: &[i32], counter: &mut [u32]) -> InSector
     requires { ⌜ AcceptedGroup group ⌝ }
-    requires { ⌜ AcceptedWord planeLength (group .sites) (now word) ⌝ }
+    requires { ⌜ AcceptedWord (group .sites) (now word) ⌝ }
     ensures answer { λ r. ⌜ outcomeOfSector (r .answer) ≡ onAnswer sizeOf (sectorOutcome group (group .sites) (now (word .entry)) (now (modes .entry)) (length (now (counter .entry)))) ⌝ }
     ensures word { λ r. ⌜ r .word ≡ orElse rowWord noWord (sectorOutcome group (group .sites) (now (word .entry)) (now (modes .entry)) (length (now (counter .entry)))) ⌝ }
     ensures counter { λ _. ⌜ now (counter .exit) ≡ orElse (rowCounter (now (counter .entry))) (now (counter .entry)) (sectorOutcome group (group .sites) (now (word .entry)) (now (modes .entry)) (length (now (counter .entry)))) ⌝ }
@@ -102,7 +99,7 @@ pub fn sector_of(group: Group, word: &[u8], modes: &[i32], counter: &mut [u32]) 
 // The decision, where the lists have their lengths.
 pub fn decided(group: Group, word: &[u8], modes: &[i32], counter: &mut [u32]) -> InSector
     requires { ⌜ AcceptedGroup group ⌝ }
-    requires { ⌜ AcceptedWord planeLength (group .sites) (now word) ⌝ }
+    requires { ⌜ AcceptedWord (group .sites) (now word) ⌝ }
     requires { ⌜ (length (now modes) ≡ group .generators) × (length (now counter) ≡ group .generators) ⌝ }
     ensures answer { λ r. ⌜ outcomeOfSector (r .answer) ≡ onAnswer sizeOf (sectorOutcome group (group .sites) (now (word .entry)) (now (modes .entry)) (length (now (counter .entry)))) ⌝ }
     ensures word { λ r. ⌜ r .word ≡ orElse rowWord noWord (sectorOutcome group (group .sites) (now (word .entry)) (now (modes .entry)) (length (now (counter .entry)))) ⌝ }
@@ -146,10 +143,10 @@ pub struct Placed {
 // The decision with the index in the place of its counter.
 pub fn placement_of(group: Group, word: &[u8], modes: &[i32]) -> Placed
     requires { ⌜ AcceptedGroup group ⌝ }
-    requires { ⌜ AcceptedWord planeLength (group .sites) (now word) ⌝ }
+    requires { ⌜ AcceptedWord (group .sites) (now word) ⌝ }
     requires { ⌜ length (now modes) ≡ group .generators ⌝ }
-    ensures answer { λ r. ⌜ r .answer ≡ placement (generatorsOf group) (now (modes .entry)) (decode planeLength (group .sites) (now (word .entry))) ⌝ }
-    ensures word { λ r. ⌜ r .word ≡ placementWord (generatorsOf group) (now (modes .entry)) (decode planeLength (group .sites) (now (word .entry))) ⌝ }
+    ensures answer { λ r. ⌜ r .answer ≡ placement (generatorsOf group) (now (modes .entry)) (lettersIn (group .sites) (now (word .entry))) ⌝ }
+    ensures word { λ r. ⌜ r .word ≡ placementWord (generatorsOf group) (now (modes .entry)) (lettersIn (group .sites) (now (word .entry))) ⌝ }
 {
     let order = group::inner::order_of(group);
     let modulus = group::inner::modulus_of(group);

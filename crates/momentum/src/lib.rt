@@ -9,14 +9,10 @@ mod stabilizer;
 
 ghost use mathlib.Core.Path.{_≡_};
 ghost use lib.ListN.{length};
-ghost use Rattle.pauli_word.specs.Outcome.{onAnswer, orElse};
-ghost use Rattle.group.specs.Calls.{done, itself, noWord, outcomeOfNumber, outcomeOfDone};
+ghost use Rattle.outcome.specs.Outcome.{onAnswer, orElse};
+ghost use Rattle.group.specs.Calls.{done, itself, noWord, outcomeOfNumber, outcomeOfVerdict};
 ghost use Rattle.momentum.specs.Calls.{numeratorOutcome, tableOutcome, sectorOutcome, outcomeOfSector, sizeOf, rowWord, rowCounter};
-use group::Done;
 use group::Group;
-use group::Number;
-use group::Refusal;
-use group::value::Pass;
 use pauli_word::WORD_BYTES;
 
 // What modes make of a word.
@@ -40,19 +36,19 @@ pub fn character_numerator(group: Group, modes: &[i32], counter: &[u32]) -> Numb
     ensures answer { λ r. ⌜ outcomeOfNumber r ≡ numeratorOutcome group (now (modes .entry)) (now (counter .entry)) ⌝ }
 {
     match group::value::value_checked(group) {
-        Pass::Refused(why) => Number::Refused(why),
-        Pass::Accepted => inner::numerator_of(group, modes, counter),
+        Verdict::Refused(why) => Number::Refused(why),
+        Verdict::Accepted => inner::numerator_of(group, modes, counter),
     }
 }
 
 // The numerators of all indices, generator 0 fastest, into a list with an entry for each.
-pub fn character_table(group: Group, modes: &[i32], list: &mut [usize]) -> Done
-    ensures answer { λ r. ⌜ outcomeOfDone r ≡ onAnswer done (tableOutcome group (now (modes .entry)) (length (now (list .entry)))) ⌝ }
+pub fn character_table(group: Group, modes: &[i32], list: &mut [usize]) -> Verdict
+    ensures answer { λ r. ⌜ outcomeOfVerdict r ≡ onAnswer done (tableOutcome group (now (modes .entry)) (length (now (list .entry)))) ⌝ }
     ensures list { λ _. ⌜ now (list .exit) ≡ orElse itself (now (list .entry)) (tableOutcome group (now (modes .entry)) (length (now (list .entry)))) ⌝ }
 {
     match group::value::value_checked(group) {
-        Pass::Refused(why) => Done::Refused(why),
-        Pass::Accepted => inner::table_of(group, modes, list),
+        Verdict::Refused(why) => Verdict::Refused(why),
+        Verdict::Accepted => inner::table_of(group, modes, list),
     }
 }
 
@@ -71,7 +67,7 @@ pub fn canonicalize_in_sector(
     ensures counter { λ _. ⌜ now (counter .exit) ≡ orElse (rowCounter (now (counter .entry))) (now (counter .entry)) (sectorOutcome group n (now (word .entry)) (now (modes .entry)) (length (now (counter .entry)))) ⌝ }
 {
     match group::value::word_call_checked(group, n, word) {
-        Pass::Refused(why) => inner::no_row(Sector::Refused(why)),
-        Pass::Accepted => inner::sector_of(group, word, modes, counter),
+        Verdict::Refused(why) => inner::no_row(Sector::Refused(why)),
+        Verdict::Accepted => inner::sector_of(group, word, modes, counter),
     }
 }

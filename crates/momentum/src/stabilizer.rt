@@ -52,9 +52,9 @@ pub fn tested(
     requires { ⌜ Tables generators sites (now targets) (now orders) ⌝ }
     requires { ⌜ modulus ≡ modulusOf (generatorsIn generators sites (now targets) (now orders)) ⌝ }
     requires { ⌜ length (now modes) ≡ generators ⌝ }
-    requires { ⌜ AcceptedWord planeLength sites (now word) ⌝ }
-    requires { ⌜ now here ≡ encode planeLength (reach (generatorsIn generators sites (now targets) (now orders)) index (decode planeLength sites (now word))) ⌝ }
-    ensures { λ r. ⌜ r ≡ testOf (generatorsIn generators sites (now (targets .entry)) (now (orders .entry))) (now (modes .entry)) (decode planeLength sites (now (word .entry))) index ⌝ }
+    requires { ⌜ AcceptedWord sites (now word) ⌝ }
+    requires { ⌜ now here ≡ bytesOf (reach (generatorsIn generators sites (now targets) (now orders)) index (lettersIn sites (now word))) ⌝ }
+    ensures { λ r. ⌜ r ≡ testOf (generatorsIn generators sites (now (targets .entry)) (now (orders .entry))) (now (modes .entry)) (lettersIn sites (now (word .entry))) index ⌝ }
 {
     let Ordering::Same = pauli_word::compare(here, word) else {
         return Test::Moves;
@@ -92,9 +92,9 @@ pub fn canonicalize_with_stabilizer(
     requires { ⌜ order ≡ orderOf (generatorsIn generators sites (now targets) (now orders)) ⌝ }
     requires { ⌜ m ≡ modulusOf (generatorsIn generators sites (now targets) (now orders)) ⌝ }
     requires { ⌜ length (now modes) ≡ generators ⌝ }
-    requires { ⌜ AcceptedWord planeLength sites (now word) ⌝ }
-    ensures answer { λ r. ⌜ r .answer ≡ traversal (generatorsIn generators sites (now (targets .entry)) (now (orders .entry))) (now (modes .entry)) (decode planeLength sites (now (word .entry))) ⌝ }
-    ensures word { λ r. ⌜ r .word ≡ placementWord (generatorsIn generators sites (now (targets .entry)) (now (orders .entry))) (now (modes .entry)) (decode planeLength sites (now (word .entry))) ⌝ }
+    requires { ⌜ AcceptedWord sites (now word) ⌝ }
+    ensures answer { λ r. ⌜ r .answer ≡ traversal (generatorsIn generators sites (now (targets .entry)) (now (orders .entry))) (now (modes .entry)) (lettersIn sites (now (word .entry))) ⌝ }
+    ensures word { λ r. ⌜ r .word ≡ placementWord (generatorsIn generators sites (now (targets .entry)) (now (orders .entry))) (now (modes .entry)) (lettersIn sites (now (word .entry))) ⌝ }
 {
     let mut here = [0u8; WORD_BYTES];
     orbit::walk::copy(word, &mut here);

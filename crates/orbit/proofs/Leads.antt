@@ -148,67 +148,67 @@ order-not-same v w h = go (same v w) refl
     go true t = absurd (h (rw (same-eq v w t, less-irrefl w)))
     go false t = refl
 
-module _ {n : ℕ} {here best : List ℕ} (h : AcceptedWord planeLength n here) (b : AcceptedWord planeLength n best) {o : Ordering}
+module _ {n : ℕ} {here best : List ℕ} (h : AcceptedWord n here) (b : AcceptedWord n best) {o : Ordering}
     (eo : o ≡ orderOfBits (planeBits here) (planeBits best)) where
-  pub less-taken : o ≡ Less → less (decode planeLength n here) (decode planeLength n best) ≡ true
-  less-taken e = order-less (decode planeLength n here) (decode planeLength n best) (sym (eo ∙ order-words h b) ∙ e)
+  pub less-taken : o ≡ Less → less (lettersIn n here) (lettersIn n best) ≡ true
+  less-taken e = order-less (lettersIn n here) (lettersIn n best) (sym (eo ∙ order-words h b) ∙ e)
 
-  pub less-left : (o ≡ Less → ⊥) → less (decode planeLength n here) (decode planeLength n best) ≡ false
-  less-left f = order-not-less (decode planeLength n here) (decode planeLength n best) (λ e. f (eo ∙ order-words h b ∙ e))
+  pub less-left : (o ≡ Less → ⊥) → less (lettersIn n here) (lettersIn n best) ≡ false
+  less-left f = order-not-less (lettersIn n here) (lettersIn n best) (λ e. f (eo ∙ order-words h b ∙ e))
 
-  pub same-taken : o ≡ Same → same (decode planeLength n here) (decode planeLength n best) ≡ true
+  pub same-taken : o ≡ Same → same (lettersIn n here) (lettersIn n best) ≡ true
   same-taken e =
-      order-same (decode planeLength n here) (decode planeLength n best) (decode-length h ∙ sym (decode-length b)) (sym (eo ∙ order-words h b) ∙ e)
+      order-same (lettersIn n here) (lettersIn n best) (decode-length h ∙ sym (decode-length b)) (sym (eo ∙ order-words h b) ∙ e)
 
-  pub same-left : (o ≡ Same → ⊥) → same (decode planeLength n here) (decode planeLength n best) ≡ false
-  same-left f = order-not-same (decode planeLength n here) (decode planeLength n best) (λ e. f (eo ∙ order-words h b ∙ e))
+  pub same-left : (o ≡ Same → ⊥) → same (lettersIn n here) (lettersIn n best) ≡ false
+  same-left f = order-not-same (lettersIn n here) (lettersIn n best) (λ e. f (eo ∙ order-words h b ∙ e))
 
 -- the next entry takes the lead or leaves it
 module _ {k n : ℕ} {targets orders : List ℕ} (t : Tables k n targets orders) (w : Word) (long : length w ≡ n) (i : ℕ) {here best : List ℕ}
-    (eh : here ≡ encode planeLength (reach (generatorsIn k n targets orders) i w))
-    (eb : best ≡ encode planeLength (lead (generatorsIn k n targets orders) w i)) where
+    (eh : here ≡ bytesOf (reach (generatorsIn k n targets orders) i w))
+    (eb : best ≡ bytesOf (lead (generatorsIn k n targets orders) w i)) where
   lowest : length (lead (generatorsIn k n targets orders) w i) ≡ n
   lowest = lead-length (generatorsIn k n targets orders) w i ∙ long
 
-  pub lead-accepted : AcceptedWord planeLength n best
+  pub lead-accepted : AcceptedWord n best
   lead-accepted = encoded-accepted planeLength (lead (generatorsIn k n targets orders) w i) lowest (t .sites) eb
 
   -- of the bytes, as of the words
-  compared : less (decode planeLength n here) (decode planeLength n best)
+  compared : less (lettersIn n here) (lettersIn n best)
       ≡ less (reach (generatorsIn k n targets orders) i w) (lead (generatorsIn k n targets orders) w i)
   compared =
       let gs : List Generator = generatorsIn k n targets orders in
-      ap₂ less (encoded-decode planeLength (reach gs i w) (reach-length gs i w ∙ long) (t .sites) eh)
-      (encoded-decode planeLength (lead gs w i) lowest (t .sites) eb)
+      ap₂ less (encoded-lettersIn (reach gs i w) (reach-length gs i w ∙ long) (t .sites) eh)
+      (encoded-lettersIn (lead gs w i) lowest (t .sites) eb)
 
-  pub lead-bytes : {next : List ℕ} → next ≡ cond (less (decode planeLength n here) (decode planeLength n best)) here best
-      → next ≡ encode planeLength (lead (generatorsIn k n targets orders) w (i + 1))
-  lead-bytes {next} e = go (less (decode planeLength n here) (decode planeLength n best)) refl
+  pub lead-bytes : {next : List ℕ} → next ≡ cond (less (lettersIn n here) (lettersIn n best)) here best
+      → next ≡ bytesOf (lead (generatorsIn k n targets orders) w (i + 1))
+  lead-bytes {next} e = go (less (lettersIn n here) (lettersIn n best)) refl
     where
       gs : List Generator
       gs = generatorsIn k n targets orders
 
-      go : (b : Bool) → less (decode planeLength n here) (decode planeLength n best) ≡ b → next ≡ encode planeLength (lead gs w (i + 1))
-      go true h = e ∙ rw h (eh ∙ ap (encode planeLength) (sym (lead-taken gs w i (sym compared ∙ h))))
-      go false h = e ∙ rw h (eb ∙ ap (encode planeLength) (sym (lead-kept gs w i (sym compared ∙ h))))
+      go : (b : Bool) → less (lettersIn n here) (lettersIn n best) ≡ b → next ≡ bytesOf (lead gs w (i + 1))
+      go true h = e ∙ rw h (eh ∙ ap bytesOf (sym (lead-taken gs w i (sym compared ∙ h))))
+      go false h = e ∙ rw h (eb ∙ ap bytesOf (sym (lead-kept gs w i (sym compared ∙ h))))
 
   pub lead-place : {index next : ℕ} → index ≡ firstAt (lead (generatorsIn k n targets orders) w i) (entries (generatorsIn k n targets orders) w i)
-      → next ≡ cond (less (decode planeLength n here) (decode planeLength n best)) i index
+      → next ≡ cond (less (lettersIn n here) (lettersIn n best)) i index
       → next ≡ firstAt (lead (generatorsIn k n targets orders) w (i + 1)) (entries (generatorsIn k n targets orders) w (i + 1))
-  lead-place {index} {next} p e = go (less (decode planeLength n here) (decode planeLength n best)) refl
+  lead-place {index} {next} p e = go (less (lettersIn n here) (lettersIn n best)) refl
     where
       gs : List Generator
       gs = generatorsIn k n targets orders
 
-      go : (b : Bool) → less (decode planeLength n here) (decode planeLength n best) ≡ b
+      go : (b : Bool) → less (lettersIn n here) (lettersIn n best) ≡ b
           → next ≡ firstAt (lead gs w (i + 1)) (entries gs w (i + 1))
       go true h = e ∙ rw h (sym (place-taken gs w i (sym compared ∙ h)))
       go false h = e ∙ rw h (p ∙ sym (place-kept gs w i (sym compared ∙ h)))
 
 -- ---- before the first entry, and after the last
 
-pub lead-start : {n : ℕ} {bytes : List ℕ} → AcceptedWord planeLength n bytes → (gs : List Generator)
-    → bytes ≡ encode planeLength (lead gs (decode planeLength n bytes) 0)
+pub lead-start : {n : ℕ} {bytes : List ℕ} → AcceptedWord n bytes → (gs : List Generator)
+    → bytes ≡ bytesOf (lead gs (lettersIn n bytes) 0)
 unfolding below from leastOf
 lead-start ok gs = sym (encode-decode ok)
 

@@ -44,25 +44,25 @@ module _ {n : ℕ} {perm : List ℕ} (permutes : Permutes n perm) where
       omega arith)
       ∙ getD-replicate n (target perm q) I I (permutes .inside q h)
 
-  module _ {bytes : List ℕ} (ok : AcceptedWord planeLength n bytes) where
+  module _ {bytes : List ℕ} (ok : AcceptedWord n bytes) where
     pub placed-next : (q : ℕ) (x z : Bool) → q < n
         → x ≡ getD (planeBits (take planeLength bytes)) q false → z ≡ getD (planeBits (drop planeLength bytes)) q false
-        → {out next : List ℕ} → out ≡ encode planeLength (placed n perm (decode planeLength n bytes) q)
-        → next ≡ withSite planeLength out (target perm q) x z → next ≡ encode planeLength (placed n perm (decode planeLength n bytes) (q + 1))
+        → {out next : List ℕ} → out ≡ bytesOf (placed n perm (lettersIn n bytes) q)
+        → next ≡ withSite planeLength out (target perm q) x z → next ≡ bytesOf (placed n perm (lettersIn n bytes) (q + 1))
     placed-next q x z h ex ez eo en =
-        let w : Word = decode planeLength n bytes in
+        let w : Word = lettersIn n bytes in
         let v : Word = placed n perm w q in
         en
         ∙ ap (λ (out : List ℕ). withSite planeLength out (target perm q) x z) eo
-        ∙ ap₂ (withSite planeLength (encode planeLength v) (target perm q)) (sym (xBit-letterOf x z)) (sym (zBit-letterOf x z))
+        ∙ ap₂ (withSite planeLength (bytesOf v) (target perm q)) (sym (xBit-letterOf x z)) (sym (zBit-letterOf x z))
         ∙ encode-set planeLength v (target perm q) (letterOf x z)
         (rw (placed-length n perm w q) (permutes .inside q h)) (rw (placed-length n perm w q) (ok .sites)) (placed-free w q h)
-        ∙ ap (encode planeLength)
+        ∙ ap bytesOf
         (ap (set v (target perm q)) (letter-at ok q h x z ex ez)
         ∙ sym (place-next perm w (replicate n I) q (rw (permutes .long) h) (rw (decode-length ok) h))
         ∙ ap (placed n perm w) (sym (add-one q)))
 
-    pub placed-all : (q : ℕ) → n ≤ q → placed n perm (decode planeLength n bytes) q ≡ move perm (decode planeLength n bytes)
+    pub placed-all : (q : ℕ) → n ≤ q → placed n perm (lettersIn n bytes) q ≡ move perm (lettersIn n bytes)
     unfolding move
     placed-all q h =
-        rw (take-all q perm (omega (arith, permutes .long)), take-all q (decode planeLength n bytes) (omega (arith, decode-length ok)), decode-length ok)
+        rw (take-all q perm (omega (arith, permutes .long)), take-all q (lettersIn n bytes) (omega (arith, decode-length ok)), decode-length ok)

@@ -50,26 +50,26 @@ entries-all gs w = refl
 -- ---- the bytes at hand
 
 -- the walk starts at the word, which index 0 keeps
-pub walk-start : {n : ℕ} {bytes : List ℕ} → AcceptedWord planeLength n bytes → (gs : List Generator)
-    → bytes ≡ encode planeLength (reach gs 0 (decode planeLength n bytes))
-walk-start {n} {bytes} ok gs = sym (ap (encode planeLength) (reach-zero gs (decode planeLength n bytes)) ∙ encode-decode ok)
+pub walk-start : {n : ℕ} {bytes : List ℕ} → AcceptedWord n bytes → (gs : List Generator)
+    → bytes ≡ bytesOf (reach gs 0 (lettersIn n bytes))
+walk-start {n} {bytes} ok gs = sym (ap bytesOf (reach-zero gs (lettersIn n bytes)) ∙ encode-decode ok)
 
 module _ {k n : ℕ} {targets orders : List ℕ} (t : Tables k n targets orders) (w : Word) (long : length w ≡ n)
-    (i : ℕ) {here : List ℕ} (e : here ≡ encode planeLength (reach (generatorsIn k n targets orders) i w)) where
+    (i : ℕ) {here : List ℕ} (e : here ≡ bytesOf (reach (generatorsIn k n targets orders) i w)) where
   reach-long : length (reach (generatorsIn k n targets orders) i w) ≡ n
   reach-long = reach-length (generatorsIn k n targets orders) i w ∙ long
 
-  pub walk-accepted : AcceptedWord planeLength n here
+  pub walk-accepted : AcceptedWord n here
   walk-accepted = encoded-accepted planeLength (reach (generatorsIn k n targets orders) i w) reach-long (t .sites) e
 
   pub walk-next : {next : List ℕ}
-      → next ≡ encode planeLength (stepped (generatorsIn k n targets orders) (digits (generatorsIn k n targets orders) i) (decode planeLength n here))
-      → next ≡ encode planeLength (reach (generatorsIn k n targets orders) (i + 1) w)
+      → next ≡ bytesOf (stepped (generatorsIn k n targets orders) (digits (generatorsIn k n targets orders) i) (lettersIn n here))
+      → next ≡ bytesOf (reach (generatorsIn k n targets orders) (i + 1) w)
   walk-next a =
       a
-      ∙ ap (encode planeLength)
+      ∙ ap bytesOf
       (ap (stepped (generatorsIn k n targets orders) (digits (generatorsIn k n targets orders) i))
-      (encoded-decode planeLength (reach (generatorsIn k n targets orders) i w) reach-long (t .sites) e)
+      (encoded-lettersIn (reach (generatorsIn k n targets orders) i w) reach-long (t .sites) e)
       ∙ sym (reach-step (t .valid) i w long)
       ∙ ap (λ (j : ℕ). reach (generatorsIn k n targets orders) j w) (sym (add-one i)))
 
@@ -79,13 +79,13 @@ encodeAll-append : (vs ws : List Word) → encodeAll (vs ++ ws) ≡ encodeAll vs
 unfolding encodeAll
 encodeAll-append [] ws = refl
 encodeAll-append (v ∷ vs) ws =
-    ap (λ (l : List ℕ). encode planeLength v ++ l) (encodeAll-append vs ws) ∙ sym (append-assoc (encode planeLength v) (encodeAll vs) (encodeAll ws))
+    ap (λ (l : List ℕ). bytesOf v ++ l) (encodeAll-append vs ws) ∙ sym (append-assoc (bytesOf v) (encodeAll vs) (encodeAll ws))
 
 pub encodeAll-length : (ws : List Word) → length (encodeAll ws) ≡ wordLength * length ws
 unfolding encodeAll
 encodeAll-length [] = refl
 encodeAll-length (w ∷ ws) =
-    omega (arith, length-append (encode planeLength w) (encodeAll ws), encode-length planeLength w, encodeAll-length ws)
+    omega (arith, length-append (bytesOf w) (encodeAll ws), encode-length planeLength w, encodeAll-length ws)
 
 -- the first i entries, and the list as it was behind them
 abbrev pub filled : List Generator → Word → List ℕ → ℕ → List ℕ
@@ -106,7 +106,7 @@ pub part-length : (list : List ℕ) (i : ℕ) → 64 * i + 64 ≤ length list �
 part-length list i h = simp (length-take, length-drop) (omega arith)
 
 -- the next entry stored behind the first i, in the part of the list that it takes
-pub filled-next : (gs : List Generator) (w : Word) (list now bytes : List ℕ) (i : ℕ) → now ≡ filled gs w list i → bytes ≡ encode planeLength (reach gs i w)
+pub filled-next : (gs : List Generator) (w : Word) (list now bytes : List ℕ) (i : ℕ) → now ≡ filled gs w list i → bytes ≡ bytesOf (reach gs i w)
     → take (64 * i) now ++ (bytes ++ drop (64 * i + 64 - 64 * i) (drop (64 * i) now)) ≡ filled gs w list (i + 1)
 unfolding encodeAll
 filled-next gs w list now bytes i e b =

@@ -52,30 +52,30 @@ part-permutes {n = n} {targets = targets} t g h = rw (row-part n g targets) (per
 
 -- the bytes of a word, moved by generator g
 module _ {k n : ℕ} {targets orders : List ℕ} (t : Tables k n targets orders) (g rest : ℕ) (h : g < k)
-    {bytes moved : List ℕ} (ok : AcceptedWord planeLength n bytes)
-    (e : moved ≡ encode planeLength (move (take (256 * g + n - 256 * g) (drop (256 * g) targets)) (decode planeLength n bytes))) where
-  moved-is : moved ≡ encode planeLength (move (rowAt n targets g) (decode planeLength n bytes))
-  moved-is = e ∙ ap (λ (p : List ℕ). encode planeLength (move p (decode planeLength n bytes))) (row-part n g targets)
+    {bytes moved : List ℕ} (ok : AcceptedWord n bytes)
+    (e : moved ≡ bytesOf (move (take (256 * g + n - 256 * g) (drop (256 * g) targets)) (lettersIn n bytes))) where
+  moved-is : moved ≡ bytesOf (move (rowAt n targets g) (lettersIn n bytes))
+  moved-is = e ∙ ap (λ (p : List ℕ). bytesOf (move p (lettersIn n bytes))) (row-part n g targets)
 
-  moved-long : length (move (rowAt n targets g) (decode planeLength n bytes)) ≡ n
-  moved-long = move-length (rowAt n targets g) (decode planeLength n bytes) ∙ decode-length ok
+  moved-long : length (move (rowAt n targets g) (lettersIn n bytes)) ≡ n
+  moved-long = move-length (rowAt n targets g) (lettersIn n bytes) ∙ decode-length ok
 
-  pub moved-accepted : AcceptedWord planeLength n moved
-  moved-accepted = encoded-accepted planeLength (move (rowAt n targets g) (decode planeLength n bytes)) moved-long (ok .sites) moved-is
+  pub moved-accepted : AcceptedWord n moved
+  moved-accepted = encoded-accepted planeLength (move (rowAt n targets g) (lettersIn n bytes)) moved-long (ok .sites) moved-is
 
   pub moved-last : (rest % getD orders g 0 + 1 ≡ getD orders g 0 → ⊥)
-      → moved ≡ encode planeLength (stepped (drop g (generatorsIn k n targets orders)) (digits (drop g (generatorsIn k n targets orders)) rest) (decode planeLength n bytes))
-  moved-last d = moved-is ∙ ap (encode planeLength) (sym (stepped-stays t g rest (decode planeLength n bytes) h d))
+      → moved ≡ bytesOf (stepped (drop g (generatorsIn k n targets orders)) (digits (drop g (generatorsIn k n targets orders)) rest) (lettersIn n bytes))
+  moved-last d = moved-is ∙ ap bytesOf (sym (stepped-stays t g rest (lettersIn n bytes) h d))
 
   pub moved-on : rest % getD orders g 0 + 1 ≡ getD orders g 0
-      → stepped (drop g (generatorsIn k n targets orders)) (digits (drop g (generatorsIn k n targets orders)) rest) (decode planeLength n bytes)
-      ≡ stepped (drop (g + 1) (generatorsIn k n targets orders)) (digits (drop (g + 1) (generatorsIn k n targets orders)) (rest / getD orders g 0)) (decode planeLength n moved)
+      → stepped (drop g (generatorsIn k n targets orders)) (digits (drop g (generatorsIn k n targets orders)) rest) (lettersIn n bytes)
+      ≡ stepped (drop (g + 1) (generatorsIn k n targets orders)) (digits (drop (g + 1) (generatorsIn k n targets orders)) (rest / getD orders g 0)) (lettersIn n moved)
   moved-on d =
-      stepped-rolls t g rest (decode planeLength n bytes) h d
+      stepped-rolls t g rest (lettersIn n bytes) h d
       ∙ ap (stepped (drop (g + 1) (generatorsIn k n targets orders)) (digits (drop (g + 1) (generatorsIn k n targets orders)) (rest / getD orders g 0)))
-      (sym (encoded-decode planeLength (move (rowAt n targets g) (decode planeLength n bytes)) moved-long (ok .sites) moved-is))
+      (sym (encoded-lettersIn (move (rowAt n targets g) (lettersIn n bytes)) moved-long (ok .sites) moved-is))
 
 -- after the last generator
-pub moved-end : {k n : ℕ} {targets orders : List ℕ} → Tables k n targets orders → (g rest : ℕ) → k ≤ g → {bytes : List ℕ} → AcceptedWord planeLength n bytes
-    → bytes ≡ encode planeLength (stepped (drop g (generatorsIn k n targets orders)) (digits (drop g (generatorsIn k n targets orders)) rest) (decode planeLength n bytes))
-moved-end {n = n} t g rest h {bytes} ok = sym (ap (encode planeLength) (stepped-end t g rest (decode planeLength n bytes) h) ∙ encode-decode ok)
+pub moved-end : {k n : ℕ} {targets orders : List ℕ} → Tables k n targets orders → (g rest : ℕ) → k ≤ g → {bytes : List ℕ} → AcceptedWord n bytes
+    → bytes ≡ bytesOf (stepped (drop g (generatorsIn k n targets orders)) (digits (drop g (generatorsIn k n targets orders)) rest) (lettersIn n bytes))
+moved-end {n = n} t g rest h {bytes} ok = sym (ap bytesOf (stepped-end t g rest (lettersIn n bytes) h) ∙ encode-decode ok)

@@ -28,4 +28,4 @@ pub record Tables (k n : ℕ) (targets orders : List ℕ) : Type 0 where
 -- the bytes of words, one after the other
 unfoldable pub encodeAll : List Word → List ℕ
 encodeAll [] = []
-encodeAll (w ∷ ws) = encode planeLength w ++ encodeAll ws
+encodeAll (w ∷ ws) = bytesOf w ++ encodeAll ws

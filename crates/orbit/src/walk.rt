@@ -35,8 +35,8 @@ pub fn copy(src: &[u8], dst: &mut [u8])
 // A word moved by one generator: site q's letter goes to site perm[q].
 pub fn apply_generator(perm: &[u32], sites: usize, word: &[u8]) -> [u8; WORD_BYTES]
     requires { ⌜ Permutes sites (now perm) ⌝ }
-    requires { ⌜ AcceptedWord planeLength sites (now word) ⌝ }
-    ensures { λ r. ⌜ r ≡ encode planeLength (moveBy (now (perm .entry)) (decode planeLength sites (now (word .entry)))) ⌝ }
+    requires { ⌜ AcceptedWord sites (now word) ⌝ }
+    ensures { λ r. ⌜ r ≡ bytesOf (moveBy (now (perm .entry)) (lettersIn sites (now (word .entry)))) ⌝ }
 {
     let mut out = [0u8; WORD_BYTES];
     let mut q = 0;
@@ -59,8 +59,8 @@ pub fn advance(
     word: &mut [u8],
 )
     requires { ⌜ Tables generators sites (now targets) (now orders) ⌝ }
-    requires { ⌜ AcceptedWord planeLength sites (now word) ⌝ }
-    ensures { λ _. ⌜ now (word .exit) ≡ encode planeLength (stepped (generatorsIn generators sites (now (targets .entry)) (now (orders .entry))) (digits (generatorsIn generators sites (now (targets .entry)) (now (orders .entry))) index) (decode planeLength sites (now (word .entry)))) ⌝ }
+    requires { ⌜ AcceptedWord sites (now word) ⌝ }
+    ensures { λ _. ⌜ now (word .exit) ≡ bytesOf (stepped (generatorsIn generators sites (now (targets .entry)) (now (orders .entry))) (digits (generatorsIn generators sites (now (targets .entry)) (now (orders .entry))) index) (lettersIn sites (now (word .entry)))) ⌝ }
 {
     let mut rest = index;
     let mut g = 0;
@@ -89,10 +89,10 @@ pub fn fill_orbit(
     list: &mut [u8],
 )
     requires { ⌜ Tables generators sites (now targets) (now orders) ⌝ }
-    requires { ⌜ AcceptedWord planeLength sites (now word) ⌝ }
+    requires { ⌜ AcceptedWord sites (now word) ⌝ }
     requires { ⌜ order ≡ orderOf (generatorsIn generators sites (now targets) (now orders)) ⌝ }
     requires { ⌜ length (now list) ≡ wordLength * order ⌝ }
-    ensures { λ _. ⌜ now (list .exit) ≡ encodeAll (orbitList (generatorsIn generators sites (now (targets .entry)) (now (orders .entry))) (decode planeLength sites (now (word .entry)))) ⌝ }
+    ensures { λ _. ⌜ now (list .exit) ≡ encodeAll (orbitList (generatorsIn generators sites (now (targets .entry)) (now (orders .entry))) (lettersIn sites (now (word .entry)))) ⌝ }
 {
     let mut here = [0u8; WORD_BYTES];
     copy(word, &mut here);
@@ -108,10 +108,10 @@ pub fn fill_orbit(
 
 // Puts the word at hand, entry i of the walk, in the place of the best so far if it is less; the index of the one that leads then.
 pub fn take_lead(here: &[u8], sites: usize, i: usize, best: &mut [u8], index: usize) -> usize
-    requires { ⌜ AcceptedWord planeLength sites (now here) ⌝ }
-    requires { ⌜ AcceptedWord planeLength sites (now best) ⌝ }
-    ensures index { λ r. ⌜ r ≡ cond (less (decode planeLength sites (now (here .entry))) (decode planeLength sites (now (best .entry)))) i index ⌝ }
-    ensures best { λ _. ⌜ now (best .exit) ≡ cond (less (decode planeLength sites (now (here .entry))) (decode planeLength sites (now (best .entry)))) (now (here .entry)) (now (best .entry)) ⌝ }
+    requires { ⌜ AcceptedWord sites (now here) ⌝ }
+    requires { ⌜ AcceptedWord sites (now best) ⌝ }
+    ensures index { λ r. ⌜ r ≡ cond (less (lettersIn sites (now (here .entry))) (lettersIn sites (now (best .entry)))) i index ⌝ }
+    ensures best { λ _. ⌜ now (best .exit) ≡ cond (less (lettersIn sites (now (here .entry))) (lettersIn sites (now (best .entry)))) (now (here .entry)) (now (best .entry)) ⌝ }
 {
     let Ordering::Less = pauli_word::compare(here, best) else {
         return index;
@@ -130,10 +130,10 @@ pub fn canonicalize_odometer(
     word: &[u8],
 ) -> LeastWord
     requires { ⌜ Tables generators sites (now targets) (now orders) ⌝ }
-    requires { ⌜ AcceptedWord planeLength sites (now word) ⌝ }
+    requires { ⌜ AcceptedWord sites (now word) ⌝ }
     requires { ⌜ order ≡ orderOf (generatorsIn generators sites (now targets) (now orders)) ⌝ }
-    ensures word { λ r. ⌜ r .word ≡ encode planeLength (least (generatorsIn generators sites (now (targets .entry)) (now (orders .entry))) (decode planeLength sites (now (word .entry)))) ⌝ }
-    ensures index { λ r. ⌜ r .index ≡ forward (generatorsIn generators sites (now (targets .entry)) (now (orders .entry))) (decode planeLength sites (now (word .entry))) ⌝ }
+    ensures word { λ r. ⌜ r .word ≡ bytesOf (least (generatorsIn generators sites (now (targets .entry)) (now (orders .entry))) (lettersIn sites (now (word .entry)))) ⌝ }
+    ensures index { λ r. ⌜ r .index ≡ forward (generatorsIn generators sites (now (targets .entry)) (now (orders .entry))) (lettersIn sites (now (word .entry))) ⌝ }
 {
     let mut here = [0u8; WORD_BYTES];
     copy(word, &mut here);

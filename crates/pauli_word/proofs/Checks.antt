@@ -1,33 +1,33 @@
 -- What the checks of a word come to, rule by rule, and that a word which passes them is accepted.
 use Prim.Native.Nat.{ℕ, _<_, _≤_}
-use mathlib.Core.Path.{_≡_, refl, ap, _∙_}
-use mathlib.Core.Bool.{Bool, true, false, _&&_, not, cond, and-eq-true-iff}
-use mathlib.Core.List.{List, []}
-use native.Mathlib.Omega.{arith}
-use lib.Dec.{ltb, eqb}
+use mathlib.Core.Path.{_≡_, sym, ap, _∙_}
+use mathlib.Core.Bool.{true, false, and-eq-true-iff}
+use mathlib.Core.List.{List, [], _∷_}
+use lib.Dec.{eqb}
 use lib.ListN.{length, take, drop}
 use borrow.Author.Tests.{lt-ltb, le-ltb, eq-eqb, ne-eqb, ltb-false, eqb-true, not-false}
-use Rattle.pauli_word.specs.declared.WordRefusal.{WordRefusal}
-use Rattle.pauli_word.specs.declared.WordRefusal.the-variants.{TooManySites, WordLength, BitAboveSites}
+use Rattle.outcome.specs.declared.Refusal.{Refusal}
+use Rattle.outcome.specs.declared.Refusal.the-variants as Refusal
 use Rattle.pauli_word.specs.Limits.{maxSites, planeLength, wordLength}
-use Rattle.pauli_word.specs.Outcome.{Outcome, refused, answer, Check, verdict, given, unless, onAnswer, orElse}
+use Rattle.outcome.specs.Outcome.{Outcome, answer, verdict, given, refusalOf}
 use Rattle.pauli_word.specs.Bytes.{clearFrom, Bytes, AcceptedWord}
-use Rattle.pauli_word.specs.Calls.{wordChecks, clearAbove, refusalOf}
+use Rattle.pauli_word.specs.Calls.{wordChecks, clearAbove, siteCount, wordSize, bitAbove, compareChecks}
+use Rattle.outcome.proofs.Outcomes.{verdict-fine, verdict-append}
 
 module _ (n : ℕ) (bytes : List ℕ) where
-  pub too-many-sites : maxSites < n → verdict (wordChecks n bytes) ≡ refused 1 []
+  pub too-many-sites : maxSites < n → verdict (wordChecks n bytes) ≡ refusalOf Refusal.TooManySites
   too-many-sites h = simp (lt-ltb maxSites n h)
 
   module _ (few : n ≤ maxSites) where
-    pub other-length : (length bytes ≡ wordLength → ⊥) → verdict (wordChecks n bytes) ≡ refused 15 []
+    pub other-length : (length bytes ≡ wordLength → ⊥) → verdict (wordChecks n bytes) ≡ refusalOf Refusal.WordLength
     other-length h = simp (le-ltb maxSites n few, ne-eqb (length bytes) wordLength h)
 
     module _ (long : length bytes ≡ wordLength) where
-      pub x-above : clearFrom n (take planeLength bytes) ≡ false → verdict (wordChecks n bytes) ≡ refused 17 []
+      pub x-above : clearFrom n (take planeLength bytes) ≡ false → verdict (wordChecks n bytes) ≡ refusalOf Refusal.BitAboveSites
       x-above x = simp (le-ltb maxSites n few, eq-eqb (length bytes) wordLength long, x)
 
       pub z-above : clearFrom n (take planeLength bytes) ≡ true → clearFrom n (drop planeLength bytes) ≡ false
-          → verdict (wordChecks n bytes) ≡ refused 17 []
+          → verdict (wordChecks n bytes) ≡ refusalOf Refusal.BitAboveSites
       z-above x z = simp (le-ltb maxSites n few, eq-eqb (length bytes) wordLength long, x, z)
 
       pub passes : clearFrom n (take planeLength bytes) ≡ true → clearFrom n (drop planeLength bytes) ≡ true
@@ -36,52 +36,57 @@ module _ (n : ℕ) (bytes : List ℕ) where
 
 -- ---- a word that passes is accepted
 
-never : (k : ℕ) → _≡_ {A = Outcome (Unit {0})} (refused k []) (answer tt) → ⊥
-never k e = let z : _≡_ {A = ℕ} 0 1 = cc in omega arith
-
-passed : (a b c : Bool) → _≡_ {A = Outcome (Unit {0})} (cond a (refused 1 []) (cond b (refused 15 []) (cond c (refused 17 []) (answer tt)))) (answer tt)
-    → (a ≡ false) × (b ≡ false) × (c ≡ false)
-passed true b c e = absurd (never _ e)
-passed false true c e = absurd (never _ e)
-passed false false true e = absurd (never _ e)
-passed false false false e = (refl, refl, refl)
-
-pub accepted : (n : ℕ) (bytes : List ℕ) → verdict (wordChecks n bytes) ≡ answer tt → Bytes bytes → AcceptedWord planeLength n bytes
+pub accepted : (n : ℕ) (bytes : List ℕ) → verdict (wordChecks n bytes) ≡ answer tt → Bytes bytes → AcceptedWord n bytes
 accepted n bytes e small =
-    let p = passed (ltb maxSites n) (not (eqb (length bytes) wordLength)) (not (clearAbove n bytes)) e in
-    let q = and-eq-true-iff (clearFrom n (take planeLength bytes)) (clearFrom n (drop planeLength bytes)) .0 (not-false (clearAbove n bytes) (p .2)) in
+    let one = verdict-fine (siteCount n) (wordSize bytes ∷ bitAbove n bytes ∷ []) e in
+    let fifteen = verdict-fine (wordSize bytes) (bitAbove n bytes ∷ []) (one .1) in
+    let seventeen = verdict-fine (bitAbove n bytes) [] (fifteen .1) in
+    let q = and-eq-true-iff (clearFrom n (take planeLength bytes)) (clearFrom n (drop planeLength bytes)) .0 (not-false (clearAbove n bytes) (seventeen .0)) in
     record {
-      sites = ltb-false maxSites n (p .0);
-      long = eqb-true (length bytes) wordLength (not-false (eqb (length bytes) wordLength) (p .1));
+      sites = ltb-false maxSites n (one .0);
+      long = eqb-true (length bytes) wordLength (not-false (eqb (length bytes) wordLength) (fifteen .0));
       small = small;
       xClear = q .0;
       zClear = q .1;
     }
 
 -- an accepted word passes: no word of 64 bytes without a bit at or above n is refused
-pub accepted-passes : (n : ℕ) (bytes : List ℕ) → AcceptedWord planeLength n bytes → verdict (wordChecks n bytes) ≡ answer tt
+pub accepted-passes : (n : ℕ) (bytes : List ℕ) → AcceptedWord n bytes → verdict (wordChecks n bytes) ≡ answer tt
 accepted-passes n bytes ok = passes n bytes (ok .sites) (ok .long) (ok .xClear) (ok .zClear)
 
--- ---- what a call comes to after its checks
+-- ---- two words, compared: 1, then 15 of either, then 17 of either
 
-given-refusal : {A : Type 0} (why : WordRefusal) (o : Outcome A) → given (refusalOf why) o ≡ refusalOf why
-given-refusal TooManySites o = refl
-given-refusal WordLength o = refl
-given-refusal BitAboveSites o = refl
+module _ (n : ℕ) (a b : List ℕ) where
+  pub compare-many : maxSites < n → verdict (compareChecks n a b) ≡ refusalOf Refusal.TooManySites
+  compare-many h = simp (lt-ltb maxSites n h)
 
-pub call-refused : {A : Type 0} (cs : List Check) (o : Outcome A) (why : WordRefusal) → verdict cs ≡ refusalOf why → unless cs o ≡ refusalOf why
-call-refused cs o why e = ap (λ (v : Outcome (Unit {0})). given v o) e ∙ given-refusal why o
+  module _ (few : n ≤ maxSites) where
+    pub compare-first : (length a ≡ wordLength → ⊥) → verdict (compareChecks n a b) ≡ refusalOf Refusal.WordLength
+    compare-first h = simp (le-ltb maxSites n few, ne-eqb (length a) wordLength h)
 
-pub call-answers : {A : Type 0} (cs : List Check) (o : Outcome A) → verdict cs ≡ answer tt → unless cs o ≡ o
-call-answers cs o e = ap (λ (v : Outcome (Unit {0})). given v o) e
+    module _ (la : length a ≡ wordLength) where
+      pub compare-second : (length b ≡ wordLength → ⊥) → verdict (compareChecks n a b) ≡ refusalOf Refusal.WordLength
+      compare-second h = simp (le-ltb maxSites n few, eq-eqb (length a) wordLength la, ne-eqb (length b) wordLength h)
 
--- what stands beside a refusal
-pub refusal-stays : {A B : Type 0} (f : A → B) (why : WordRefusal) → onAnswer f (refusalOf why) ≡ refusalOf why
-refusal-stays f TooManySites = refl
-refusal-stays f WordLength = refl
-refusal-stays f BitAboveSites = refl
+      module _ (lb : length b ≡ wordLength) where
+        -- what is left: 17 of the one and of the other
+        left : verdict (compareChecks n a b) ≡ given (verdict (wordChecks n a)) (verdict (wordChecks n b))
+        left = simp (le-ltb maxSites n few, eq-eqb (length a) wordLength la, eq-eqb (length b) wordLength lb) (verdict-append (bitAbove n a ∷ []) (bitAbove n b ∷ []))
 
-pub refusal-else : {A B : Type 0} (f : A → B) (z : B) (why : WordRefusal) → orElse f z (refusalOf why) ≡ z
-refusal-else f z TooManySites = refl
-refusal-else f z WordLength = refl
-refusal-else f z BitAboveSites = refl
+        pub compare-above : (why : Refusal) → verdict (wordChecks n a) ≡ refusalOf why → verdict (compareChecks n a b) ≡ refusalOf why
+        compare-above why e = left ∙ ap (λ (v : Outcome (Unit {0})). given v (verdict (wordChecks n b))) e
+
+        pub compare-rest : verdict (wordChecks n a) ≡ answer tt → verdict (compareChecks n a b) ≡ verdict (wordChecks n b)
+        compare-rest e = left ∙ ap (λ (v : Outcome (Unit {0})). given v (verdict (wordChecks n b))) e
+
+-- words that pass are both accepted
+pub compare-accepted : (n : ℕ) (a b : List ℕ) → verdict (compareChecks n a b) ≡ answer tt → Bytes a → Bytes b → AcceptedWord n a × AcceptedWord n b
+compare-accepted n a b e small small′ =
+    let one = verdict-fine (siteCount n) (wordSize a ∷ wordSize b ∷ bitAbove n a ∷ bitAbove n b ∷ []) e in
+    let first = verdict-fine (wordSize a) (wordSize b ∷ bitAbove n a ∷ bitAbove n b ∷ []) (one .1) in
+    let second = verdict-fine (wordSize b) (bitAbove n a ∷ bitAbove n b ∷ []) (first .1) in
+    let above = verdict-fine (bitAbove n a) (bitAbove n b ∷ []) (second .1) in
+    let last = verdict-fine (bitAbove n b) [] (above .1) in (
+      accepted n a (simp (one .0, first .0, above .0)) small,
+      accepted n b (simp (one .0, second .0, last .0)) small′,
+    )

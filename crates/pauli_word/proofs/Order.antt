@@ -15,7 +15,7 @@ use lib.Seq.{take-at, drop-at, drop-cons}
 use Rattle.pauli_word.specs.declared.Ordering.{Ordering}
 use Rattle.pauli_word.specs.declared.Ordering.the-variants.{Less, Same, Greater}
 use Rattle.pauli_word.specs.Word.{Letter, I, X, Y, Z, Word, xBit, zBit, bits, sameLetter, same, lessBits, less}
-use Rattle.pauli_word.specs.Bytes.{odd, lowBits, number, planeBits, lettersOf, decode, clear, clearFrom, AcceptedWord}
+use Rattle.pauli_word.specs.Bytes.{odd, lowBits, number, planeBits, lettersOf, decode, clear, clearFrom, Accepted}
 use Rattle.pauli_word.specs.Calls.{orderOfBits, orderOfWords}
 use Rattle.pauli_word.proofs.Bits.{odd-cases, lowBits-length, number-lowBits}
 use Rattle.pauli_word.proofs.Planes.{planeBits-length, planeBits-append}
@@ -196,7 +196,7 @@ order-clear n xs ys l cx cy =
     ∙ same-of-same (orderOfBits (take n xs) (take n ys))
 
 -- comparing the bytes of two accepted words is comparing the words
-pub order-words : {m n : ℕ} {a b : List ℕ} → AcceptedWord m n a → AcceptedWord m n b
+pub order-words : {m n : ℕ} {a b : List ℕ} → Accepted m n a → Accepted m n b
     → orderOfBits (planeBits a) (planeBits b) ≡ orderOfWords (decode m n a) (decode m n b)
 unfolding bits clearFrom orderOfBits orderOfWords less
 order-words {m} {n} {a} {b} oka okb =

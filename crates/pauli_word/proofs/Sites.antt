@@ -10,7 +10,7 @@ use lib.ListN.{length, getD, set, take, drop, replicate, length-map}
 use lib.Seq.{take-suc, take-all, set-at, length-take-le}
 use Rattle.pauli_word.specs.Limits.{maxSites, planeLength}
 use Rattle.pauli_word.specs.Word.{Letter, I, X, Y, Z, Word, letterOf, letterWeight, weight}
-use Rattle.pauli_word.specs.Bytes.{planeBits, decode, AcceptedWord}
+use Rattle.pauli_word.specs.Bytes.{planeBits, AcceptedWord, lettersIn}
 use Rattle.pauli_word.specs.Text.{glyph, spell}
 use Rattle.pauli_word.proofs.Words.{map-append, decode-length, decode-at}
 
@@ -47,26 +47,26 @@ letterWeight-small Z = omega arith
 
 -- ---- the sites of an accepted word
 
-module _ {n : ℕ} {bytes : List ℕ} (ok : AcceptedWord planeLength n bytes) (q : ℕ) (h : q < n) where
-  site : q < length (decode planeLength n bytes)
+module _ {n : ℕ} {bytes : List ℕ} (ok : AcceptedWord n bytes) (q : ℕ) (h : q < n) where
+  site : q < length (lettersIn n bytes)
   site = rw (decode-length ok) h
 
   -- the letter of site q from its two bits
   pub letter-at : (x z : Bool) → x ≡ getD (planeBits (take planeLength bytes)) q false → z ≡ getD (planeBits (drop planeLength bytes)) q false
-      → letterOf x z ≡ getD (decode planeLength n bytes) q I
+      → letterOf x z ≡ getD (lettersIn n bytes) q I
   letter-at x z ex ez = ap₂ letterOf ex ez ∙ sym (decode-at ok q h)
 
   pub weigh-next : (x z : Bool) → x ≡ getD (planeBits (take planeLength bytes)) q false → z ≡ getD (planeBits (drop planeLength bytes)) q false
-      → weight (take q (decode planeLength n bytes)) + letterWeight (letterOf x z) ≡ weight (take (q + 1) (decode planeLength n bytes))
+      → weight (take q (lettersIn n bytes)) + letterWeight (letterOf x z) ≡ weight (take (q + 1) (lettersIn n bytes))
   weigh-next x z ex ez =
-      ap (λ (a : Letter). weight (take q (decode planeLength n bytes)) + letterWeight a) (letter-at x z ex ez)
-      ∙ sym (weight-next (decode planeLength n bytes) q site)
+      ap (λ (a : Letter). weight (take q (lettersIn n bytes)) + letterWeight a) (letter-at x z ex ez)
+      ∙ sym (weight-next (lettersIn n bytes) q site)
 
   pub spell-next : (x z : Bool) → x ≡ getD (planeBits (take planeLength bytes)) q false → z ≡ getD (planeBits (drop planeLength bytes)) q false
-      → set (spell (take q (decode planeLength n bytes)) ++ replicate (maxSites - q) 0) q (glyph (letterOf x z))
-      ≡ spell (take (q + 1) (decode planeLength n bytes)) ++ replicate (maxSites - (q + 1)) 0
+      → set (spell (take q (lettersIn n bytes)) ++ replicate (maxSites - q) 0) q (glyph (letterOf x z))
+      ≡ spell (take (q + 1) (lettersIn n bytes)) ++ replicate (maxSites - (q + 1)) 0
   spell-next x z ex ez =
-      let w = decode planeLength n bytes in
+      let w = lettersIn n bytes in
       fill-next 0 maxSites q (spell (take q w)) (glyph (letterOf x z)) (length-map (take q w) glyph ∙ length-take-le q w (le-of-lt site)) (lt-of-lt-of-le h (ok .sites))
       ∙ ap (λ (t : List ℕ). t ++ replicate (maxSites - (q + 1)) 0)
       (ap (λ (a : Letter). spell (take q w) ++ (glyph a ∷ [])) (letter-at x z ex ez)
@@ -74,5 +74,5 @@ module _ {n : ℕ} {bytes : List ℕ} (ok : AcceptedWord planeLength n bytes) (q
       ∙ ap spell (sym (take-next w q I site)))
 
 -- after the last site
-pub all-sites : {n : ℕ} {bytes : List ℕ} → AcceptedWord planeLength n bytes → (q : ℕ) → n ≤ q → take q (decode planeLength n bytes) ≡ decode planeLength n bytes
-all-sites {n} {bytes} ok q h = take-all q (decode planeLength n bytes) (rw (decode-length ok) h)
+pub all-sites : {n : ℕ} {bytes : List ℕ} → AcceptedWord n bytes → (q : ℕ) → n ≤ q → take q (lettersIn n bytes) ≡ lettersIn n bytes
+all-sites {n} {bytes} ok q h = take-all q (lettersIn n bytes) (rw (decode-length ok) h)

@@ -11,9 +11,9 @@ use lib.Seq.{length-take-le, take-all}
 use borrow.Author.Tests.{ne-eqb, eqb-true, lt-ltb, le-ltb}
 use Rattle.pauli_word.specs.declared.letter.LetterBits.the-variants.{Bits, Other}
 use Rattle.pauli_word.specs.Limits.{maxSites, planeLength}
-use Rattle.pauli_word.specs.Outcome.{refused, answer}
+use Rattle.outcome.specs.Outcome.{refused, answer}
 use Rattle.pauli_word.specs.Word.{Letter, I, X, Y, Z, Word, xBit, zBit}
-use Rattle.pauli_word.specs.Bytes.{encode, withSite}
+use Rattle.pauli_word.specs.Bytes.{withSite, bytesOf}
 use Rattle.pauli_word.specs.Text.{glyph, isLetter, letter, lettersAlone, firstOther, readText, spell}
 use Rattle.pauli_word.specs.Calls.{letterBits, fromTextOutcome}
 use Rattle.pauli_word.proofs.Words.{map-append, encode-next}
@@ -139,15 +139,15 @@ module _ (text : List ℕ) (i : ℕ) (h : i < length text) where
       ∙ ap₂ _&&_ e (and-true (isLetter (getD text i 0)) ∙ f)
 
   pub text-next : length text ≤ maxSites
-      → withSite planeLength (encode planeLength (readText (take i text))) i (xBit (letter (getD text i 0))) (zBit (letter (getD text i 0)))
-      ≡ encode planeLength (readText (take (i + 1) text))
+      → withSite planeLength (bytesOf (readText (take i text))) i (xBit (letter (getD text i 0))) (zBit (letter (getD text i 0)))
+      ≡ bytesOf (readText (take (i + 1) text))
   text-next l =
       let w = readText (take i text) in
       let a = letter (getD text i 0) in
       let e : length w ≡ i = length-map (take i text) letter ∙ length-take-le i text (le-of-lt h) in
-      ap (λ (k : ℕ). withSite planeLength (encode planeLength w) k (xBit a) (zBit a)) (sym e)
+      ap (λ (k : ℕ). withSite planeLength (bytesOf w) k (xBit a) (zBit a)) (sym e)
       ∙ encode-next planeLength w a (subst (λ (k : ℕ). k < maxSites) (sym e) (lt-of-lt-of-le h l))
-      ∙ ap (encode planeLength) (sym (map-append letter (take i text) (getD text i 0 ∷ [])) ∙ ap readText (sym (take-next text i 0 h)))
+      ∙ ap bytesOf (sym (map-append letter (take i text) (getD text i 0 ∷ [])) ∙ ap readText (sym (take-next text i 0 h)))
 
 pub all-text : (text : List ℕ) (i : ℕ) → length text ≤ i → take i text ≡ text
 all-text text i h = take-all i text h

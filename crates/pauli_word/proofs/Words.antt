@@ -9,7 +9,7 @@ use native.Mathlib.Omega.{arith}
 use lib.ListN.{length, getD, set, take, drop, replicate, length-append, length-drop, length-map, take-append-drop, drop-of-length-le, List·getD-map}
 use lib.Seq.{take-at, drop-at, length-take-le, getD-take, take-all}
 use Rattle.pauli_word.specs.Word.{Letter, I, X, Y, Z, Word, xBit, zBit, letterOf}
-use Rattle.pauli_word.specs.Bytes.{planeBits, planeOf, lettersOf, decode, encode, clear, clearFrom, Bytes, orAt, withSite, AcceptedWord}
+use Rattle.pauli_word.specs.Bytes.{planeBits, planeOf, lettersOf, decode, encode, clear, clearFrom, Bytes, orAt, withSite, Accepted}
 use Rattle.pauli_word.proofs.Bits.{pad}
 use Rattle.pauli_word.proofs.Planes.{planeBits-length, planeBits-planeOf, bytes-of, planeOf-length, planeOf-bytes, planeOf-planeBits, planeBits-injective}
 
@@ -165,7 +165,7 @@ module _ (m : ℕ) (w : Word) where
           ap (λ (k : ℕ). take k (planeBits (planeOf m bs))) (sym e) ∙ take-planeOf m bs (subst (λ (k : ℕ). k ≤ 8 * m) (sym e) h)
 
   -- the bytes of a word are an accepted word
-  pub encode-accepted : length w ≤ 8 * m → AcceptedWord m (length w) (encode m w)
+  pub encode-accepted : length w ≤ 8 * m → Accepted m (length w) (encode m w)
   unfolding encode
   encode-accepted h = record {
     sites = h;
@@ -181,7 +181,7 @@ module _ (m : ℕ) (w : Word) where
       small : Bytes (encode m w)
       small = bytes-append (planeOf m (map xBit w)) (planeOf m (map zBit w)) (planeOf-bytes m (map xBit w)) (planeOf-bytes m (map zBit w))
 
-module _ {m n : ℕ} {bytes : List ℕ} (ok : AcceptedWord m n bytes) where
+module _ {m n : ℕ} {bytes : List ℕ} (ok : Accepted m n bytes) where
   pub xLong : length (take m bytes) ≡ m
   xLong = length-take-le m bytes (subst (λ (k : ℕ). m ≤ k) (sym (ok .long)) (omega arith))
 
@@ -225,7 +225,7 @@ module _ {m n : ℕ} {bytes : List ℕ} (ok : AcceptedWord m n bytes) where
       ∙ take-append-drop m bytes
 
 -- two accepted words with the same letters have the same bytes
-pub decode-injective : {m n : ℕ} {a b : List ℕ} → AcceptedWord m n a → AcceptedWord m n b → decode m n a ≡ decode m n b → a ≡ b
+pub decode-injective : {m n : ℕ} {a b : List ℕ} → Accepted m n a → Accepted m n b → decode m n a ≡ decode m n b → a ≡ b
 decode-injective {m} oka okb e = sym (encode-decode oka) ∙ ap (encode m) e ∙ encode-decode okb
 
 -- ---- one site more
@@ -356,7 +356,7 @@ encode-blank m n = ap₂ _++_ (plane xBit refl) (plane zBit refl)
 
 -- bytes that are those of a word of n letters
 module _ (m : ℕ) {n : ℕ} {bytes : List ℕ} (w : Word) (long : length w ≡ n) (few : n ≤ 8 * m) (e : bytes ≡ encode m w) where
-  pub encoded-accepted : AcceptedWord m n bytes
+  pub encoded-accepted : Accepted m n bytes
   encoded-accepted = rw (e, ← long) (encode-accepted m w (rw long few))
 
   pub encoded-decode : decode m n bytes ≡ w

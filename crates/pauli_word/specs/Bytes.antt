@@ -6,6 +6,7 @@ use mathlib.Core.Bool.{Bool, true, false, _&&_, _||_, not}
 use mathlib.Core.List.{List, [], _∷_, _++_, map}
 use lib.Dec.{eqb}
 use lib.ListN.{length, getD, set, take, drop}
+use Rattle.pauli_word.specs.Limits.{planeLength}
 use Rattle.pauli_word.specs.Word.{Word, xBit, zBit, letterOf, bit}
 
 abbrev pub odd : ℕ → Bool
@@ -45,6 +46,14 @@ decode m n bytes = lettersOf (take n (planeBits (take m bytes))) (take n (planeB
 unfoldable pub encode : ℕ → Word → List ℕ
 encode m w = planeOf m (map xBit w) ++ planeOf m (map zBit w)
 
+-- the letters of n sites in the bytes of a stored word
+abbrev pub lettersIn : ℕ → List ℕ → Word
+lettersIn n bytes = decode planeLength n bytes
+
+-- the bytes of a stored word
+abbrev pub bytesOf : Word → List ℕ
+bytesOf w = encode planeLength w
+
 -- bits with bit q set where b holds
 abbrev pub orAt : List Bool → ℕ → Bool → List Bool
 orAt bs q b = set bs q (getD bs q false || b)
@@ -67,10 +76,14 @@ abbrev pub Bytes : List ℕ → Type 0
 Bytes [] = Unit {0}
 Bytes (x ∷ xs) = (x < 256) × Bytes xs
 
--- an accepted word of n sites: two planes of m bytes, and no bit at or above n
-pub record AcceptedWord (m n : ℕ) (bytes : List ℕ) : Type 0 where
+-- an accepted word of n sites in planes of m bytes: two planes, and no bit at or above n
+pub record Accepted (m n : ℕ) (bytes : List ℕ) : Type 0 where
   pub sites : n ≤ 8 * m
   pub long : length bytes ≡ m + m
   pub small : Bytes bytes
   pub xClear : clearFrom n (take m bytes) ≡ true
   pub zClear : clearFrom n (drop m bytes) ≡ true
+
+-- an accepted stored word
+abbrev pub AcceptedWord : ℕ → List ℕ → Type 0
+AcceptedWord n bytes = Accepted planeLength n bytes

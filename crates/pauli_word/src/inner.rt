@@ -5,23 +5,19 @@ ghost use Prim.Native.Nat.{_-_};
 ghost use mathlib.Core.List.{_++_};
 ghost use lib.ListN.{length, getD, take, drop, replicate};
 ghost use Rattle.pauli_word.specs.Limits.{maxSites, planeLength, wordLength};
-ghost use Rattle.pauli_word.specs.Outcome.{verdict};
+ghost use Rattle.outcome.specs.Outcome.{verdict, outcomeOfVerdict};
 ghost use Rattle.pauli_word.specs.Word.{weight};
-ghost use Rattle.pauli_word.specs.Bytes.{planeBits, decode, withSite, AcceptedWord};
+ghost use Rattle.pauli_word.specs.Bytes.{planeBits, withSite, AcceptedWord, lettersIn};
 ghost use Rattle.pauli_word.specs.Text.{spell};
-ghost use Rattle.pauli_word.specs.Calls.{wordChecks, verdictOf};
+ghost use Rattle.pauli_word.specs.Calls.{wordChecks, compareChecks, orderOfBits};
 use crate::MAX_SITES;
 use crate::PLANE_BYTES;
+use crate::Ordering;
 use crate::WORD_BYTES;
-use crate::WordRefusal;
 use crate::letter;
 use crate::plane;
-
-// What the checks of a word come to.
-pub enum WordCheck {
-    Accepted,
-    Refused(WordRefusal),
-}
+use outcome::Refusal;
+use outcome::Verdict;
 
 // The two bits of a site.
 pub struct Site {
@@ -30,21 +26,57 @@ pub struct Site {
 }
 
 // The checks of a word of n sites: 1, 15, 17.
-pub fn checked(n: usize, word: &[u8]) -> WordCheck
-    ensures { λ r. ⌜ verdictOf r ≡ verdict (wordChecks n (now (word .entry))) ⌝ }
+pub fn checked(n: usize, word: &[u8]) -> Verdict
+    ensures { λ r. ⌜ outcomeOfVerdict r ≡ verdict (wordChecks n (now (word .entry))) ⌝ }
 {
     if MAX_SITES < n {
-        return WordCheck::Refused(WordRefusal::TooManySites);
+        return Verdict::Refused(Refusal::TooManySites);
     }
     if word.len() != WORD_BYTES {
-        return WordCheck::Refused(WordRefusal::WordLength);
+        return Verdict::Refused(Refusal::WordLength);
     }
     if plane::clear_from(&word[..PLANE_BYTES], n) {
         if plane::clear_from(&word[PLANE_BYTES..], n) {
-            return WordCheck::Accepted;
+            return Verdict::Accepted;
         }
     }
-    WordCheck::Refused(WordRefusal::BitAboveSites)
+    Verdict::Refused(Refusal::BitAboveSites)
+}
+
+// The checks of two words of n sites: 1, 15 of either, 17 of either.
+pub fn both_checked(n: usize, a: &[u8], b: &[u8]) -> Verdict
+    ensures { λ r. ⌜ outcomeOfVerdict r ≡ verdict (compareChecks n (now (a .entry)) (now (b .entry))) ⌝ }
+{
+    if MAX_SITES < n {
+        return Verdict::Refused(Refusal::TooManySites);
+    }
+    if a.len() != WORD_BYTES {
+        return Verdict::Refused(Refusal::WordLength);
+    }
+    if b.len() != WORD_BYTES {
+        return Verdict::Refused(Refusal::WordLength);
+    }
+    if let Verdict::Refused(why) = checked(n, a) {
+        return Verdict::Refused(why);
+    }
+    checked(n, b)
+}
+
+// How the bits of bytes a stand to those of bytes b, up to where the shorter ends.
+pub fn compare_bytes(a: &[u8], b: &[u8]) -> Ordering
+    ensures order { λ r. ⌜ r ≡ orderOfBits (planeBits (now (a .entry))) (planeBits (now (b .entry))) ⌝ }
+{
+    let n = plane::shorter(a, b);
+    let mut i = 0;
+    while i < n {
+        let x = a[i];
+        let y = b[i];
+        if x != y {
+            return plane::compare_byte(x, y);
+        }
+        i += 1;
+    }
+    Ordering::Same
 }
 
 // The bits of site q.
@@ -69,8 +101,8 @@ pub fn put_site(word: &mut [u8], q: usize, x: bool, z: bool)
 
 // The text of an accepted word, and zeros after it.
 pub fn spelled(n: usize, word: &[u8]) -> [u8; MAX_SITES]
-    requires { ⌜ AcceptedWord planeLength n (now word) ⌝ }
-    ensures { λ r. ⌜ r ≡ spell (decode planeLength n (now (word .entry))) ++ replicate (maxSites - n) 0 ⌝ }
+    requires { ⌜ AcceptedWord n (now word) ⌝ }
+    ensures { λ r. ⌜ r ≡ spell (lettersIn n (now (word .entry))) ++ replicate (maxSites - n) 0 ⌝ }
 {
     let mut text = [0u8; MAX_SITES];
     let mut q = 0;
@@ -84,8 +116,8 @@ pub fn spelled(n: usize, word: &[u8]) -> [u8; MAX_SITES]
 
 // The weight of an accepted word.
 pub fn weighed(n: usize, word: &[u8]) -> usize
-    requires { ⌜ AcceptedWord planeLength n (now word) ⌝ }
-    ensures { λ r. ⌜ r ≡ weight (decode planeLength n (now (word .entry))) ⌝ }
+    requires { ⌜ AcceptedWord n (now word) ⌝ }
+    ensures { λ r. ⌜ r ≡ weight (lettersIn n (now (word .entry))) ⌝ }
 {
     let mut sum: usize = 0;
     let mut q = 0;

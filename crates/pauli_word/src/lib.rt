@@ -6,13 +6,14 @@ pub mod inner;
 mod letter;
 mod plane;
 
-use inner::WordCheck;
 use letter::LetterBits;
+use outcome::Number;
+use outcome::Refusal;
+use outcome::Verdict;
 ghost use mathlib.Core.Path.{_≡_};
 ghost use lib.ListN.{length};
-ghost use Rattle.pauli_word.specs.Outcome.{onAnswer};
-ghost use Rattle.pauli_word.specs.Bytes.{planeBits};
-ghost use Rattle.pauli_word.specs.Calls.{fromTextOutcome, fromTextBytes, outcomeOfRead, toTextOutcome, toTextBytes, outcomeOfSpelled, weightOutcome, outcomeOfWeighed, orderOfBits};
+ghost use Rattle.outcome.specs.Outcome.{onAnswer, outcomeOfNumber};
+ghost use Rattle.pauli_word.specs.Calls.{fromTextOutcome, fromTextBytes, toTextOutcome, toTextBytes, weightOutcome, outcomeOfComparison, compareOutcome};
 
 // The most sites of a word.
 pub const MAX_SITES: usize = 256;
@@ -23,47 +24,16 @@ pub const PLANE_BYTES: usize = 32;
 // The bytes of a word.
 pub const WORD_BYTES: usize = 64;
 
-// Why a word is refused.
-pub enum WordRefusal {
-    // 1: more than 256 sites.
-    TooManySites,
-    // 15: not 64 bytes.
-    WordLength,
-    // 17: a bit at or above the site count.
-    BitAboveSites,
-}
-
-// What reading a text word comes to.
-pub enum Read {
-    // The site count; the word stands beside it.
-    Sites(usize),
-    // 28: more than 256 letters.
-    TooManyLetters,
-    // 29: a letter other than I, X, Y, Z, at this position.
-    NotALetter(usize),
-}
-
+// A word read from text: the site count beside the word, or why it is none, beside zeros.
 pub struct TextWord {
-    pub answer: Read,
+    pub answer: Number,
     pub word: [u8; WORD_BYTES],
 }
 
-// What writing a word as text comes to.
-pub enum Spelled {
-    // The text's length; the text stands beside it.
-    Letters(usize),
-    Refused(WordRefusal),
-}
-
+// A word written as text: the length beside the text, or why it is refused, beside zeros.
 pub struct WordText {
-    pub answer: Spelled,
+    pub answer: Number,
     pub text: [u8; MAX_SITES],
-}
-
-// What weighing a word comes to.
-pub enum Weighed {
-    Weight(usize),
-    Refused(WordRefusal),
 }
 
 // How the first of two words stands to the second.
@@ -73,16 +43,22 @@ pub enum Ordering {
     Greater,
 }
 
+// What comparing two words comes to.
+pub enum Comparison {
+    Order(Ordering),
+    Refused(Refusal),
+}
+
 // The word that a text writes, a letter a byte; zeros beside a refusal.
 pub fn from_text(text: &[u8]) -> TextWord
-    ensures answer { λ r. ⌜ outcomeOfRead (r .answer) ≡ onAnswer length (fromTextOutcome (now (text .entry))) ⌝ }
+    ensures answer { λ r. ⌜ outcomeOfNumber (r .answer) ≡ onAnswer length (fromTextOutcome (now (text .entry))) ⌝ }
     ensures word { λ r. ⌜ r .word ≡ fromTextBytes (now (text .entry)) ⌝ }
 {
     let n = text.len();
     let mut word = [0u8; WORD_BYTES];
     if MAX_SITES < n {
         return TextWord {
-            answer: Read::TooManyLetters,
+            answer: Number::Refused(Refusal::TooManyLetters),
             word,
         };
     }
@@ -91,7 +67,7 @@ pub fn from_text(text: &[u8]) -> TextWord
         let byte = text[i];
         let LetterBits::Bits(x, z) = letter::read(byte) else {
             return TextWord {
-                answer: Read::NotALetter(i),
+                answer: Number::Refused(Refusal::NotALetter(i)),
                 word: [0u8; WORD_BYTES],
             };
         };
@@ -99,51 +75,45 @@ pub fn from_text(text: &[u8]) -> TextWord
         i += 1;
     }
     TextWord {
-        answer: Read::Sites(n),
+        answer: Number::Value(n),
         word,
     }
 }
 
 // The text of a word of n sites, a letter a byte and zeros after it; zeros alone beside a refusal.
 pub fn to_text(n: usize, word: &[u8]) -> WordText
-    ensures answer { λ r. ⌜ outcomeOfSpelled (r .answer) ≡ onAnswer length (toTextOutcome n (now (word .entry))) ⌝ }
+    ensures answer { λ r. ⌜ outcomeOfNumber (r .answer) ≡ onAnswer length (toTextOutcome n (now (word .entry))) ⌝ }
     ensures text { λ r. ⌜ r .text ≡ toTextBytes n (now (word .entry)) ⌝ }
 {
     match inner::checked(n, word) {
-        WordCheck::Refused(why) => WordText {
-            answer: Spelled::Refused(why),
+        Verdict::Refused(why) => WordText {
+            answer: Number::Refused(why),
             text: [0u8; MAX_SITES],
         },
-        WordCheck::Accepted => WordText {
-            answer: Spelled::Letters(n),
+        Verdict::Accepted => WordText {
+            answer: Number::Value(n),
             text: inner::spelled(n, word),
         },
     }
 }
 
 // The weight of a word of n sites: the ones of both planes together.
-pub fn weight(n: usize, word: &[u8]) -> Weighed
-    ensures answer { λ r. ⌜ outcomeOfWeighed r ≡ weightOutcome n (now (word .entry)) ⌝ }
+pub fn weight(n: usize, word: &[u8]) -> Number
+    ensures answer { λ r. ⌜ outcomeOfNumber r ≡ weightOutcome n (now (word .entry)) ⌝ }
 {
     match inner::checked(n, word) {
-        WordCheck::Refused(why) => Weighed::Refused(why),
-        WordCheck::Accepted => Weighed::Weight(inner::weighed(n, word)),
+        Verdict::Refused(why) => Number::Refused(why),
+        Verdict::Accepted => Number::Value(inner::weighed(n, word)),
     }
 }
 
-// How word a stands to word b: at the first bit that differs, reading the X plane from site 0 and then the Z plane, the lesser has 0.
-pub fn compare(a: &[u8], b: &[u8]) -> Ordering
-    ensures order { λ r. ⌜ r ≡ orderOfBits (planeBits (now (a .entry))) (planeBits (now (b .entry))) ⌝ }
+// How word a stands to word b, both of n sites: at the first bit that differs, reading the X plane from site 0 and then the Z plane, the lesser
+// has 0.
+pub fn compare(n: usize, a: &[u8], b: &[u8]) -> Comparison
+    ensures answer { λ r. ⌜ outcomeOfComparison r ≡ compareOutcome n (now (a .entry)) (now (b .entry)) ⌝ }
 {
-    let n = plane::shorter(a, b);
-    let mut i = 0;
-    while i < n {
-        let x = a[i];
-        let y = b[i];
-        if x != y {
-            return plane::compare_byte(x, y);
-        }
-        i += 1;
+    match inner::both_checked(n, a, b) {
+        Verdict::Refused(why) => Comparison::Refused(why),
+        Verdict::Accepted => Comparison::Order(inner::compare_bytes(a, b)),
     }
-    Ordering::Same
 }

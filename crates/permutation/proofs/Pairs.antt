@@ -15,7 +15,7 @@ use Rattle.action.specs.Lists.{from, below}
 use Rattle.action.specs.Permutation.{target, Commute}
 use Rattle.action.proofs.Lists.{length-below, member-below, of-member-below, every-intro, every-elim}
 use Rattle.pauli_word.specs.Limits.{maxSites}
-use Rattle.pauli_word.specs.Outcome.{Check}
+use Rattle.outcome.specs.Outcome.{Check}
 use Rattle.permutation.specs.Generators.{fine, broke, orNext, commuteAt, withRight, pairsCheck, rowAt, rowsOf}
 
 -- ---- the rows

@@ -14,7 +14,7 @@ use Rattle.action.specs.Lists.{Member}
 use Rattle.action.specs.Permutation.{Generator, exactOrder, Permutes, Commute, Valid}
 use Rattle.action.specs.Index.{orderOf}
 use Rattle.action.proofs.Order.{order-positive}
-use Rattle.pauli_word.specs.Outcome.{refused, answer, Check, verdict}
+use Rattle.outcome.specs.Outcome.{refused, answer, Check, verdict}
 use Rattle.permutation.specs.Limits.{maxOrder, maxDeclared, maxWide}
 use Rattle.permutation.specs.Generators.{fine, broke, among, targetsCheck, permCheck, permsCheck, orNext, orderCheck, ordersCheck, commuteAt, withRight, pairsCheck, productOf, orderOverflow, orderLimit, groupChecks, declared}
 use Rattle.permutation.proofs.Pairs.{commuteAt-true, of-commuteAt}

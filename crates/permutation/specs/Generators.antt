@@ -5,7 +5,7 @@ use mathlib.Core.List.{List, [], _∷_, map}
 use lib.Dec.{ltb, leb, eqb}
 use lib.ListN.{length, take, drop}
 use Rattle.pauli_word.specs.Limits.{maxSites}
-use Rattle.pauli_word.specs.Outcome.{Check}
+use Rattle.outcome.specs.Outcome.{Check}
 use Rattle.action.specs.Lists.{below, every}
 use Rattle.action.specs.Permutation.{Generator, target, exactOrder}
 use Rattle.permutation.specs.Limits.{maxGenerators, maxOrder, maxDeclared, maxWide}

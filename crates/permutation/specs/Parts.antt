@@ -3,7 +3,7 @@ use Prim.Native.Nat.{ℕ, _≤_, _<_}
 use mathlib.Core.Bool.{cond}
 use mathlib.Core.List.{List, [], _∷_}
 use lib.Dec.{ltb}
-use Rattle.pauli_word.specs.Outcome.{Check, Outcome, answer}
+use Rattle.outcome.specs.Outcome.{Check, Outcome, answer}
 use Rattle.action.specs.Permutation.{exactOrder}
 use Rattle.permutation.specs.declared.inner.TargetFault.{TargetFault}
 use Rattle.permutation.specs.declared.inner.TargetFault.the-variants as TargetFault

@@ -147,7 +147,7 @@ pub fn first_pair(targets: &[u32], generators: usize, sites: usize) -> Pair
 }
 
 // The product of the first orders, none of which is 0.
-pub fn group_order(orders: &[u32], generators: usize) -> Product
+pub fn group_order(orders: &[u32], generators: usize) -> Number
     requires { ⌜ generators ≤ length (now orders) ⌝ }
     requires { ⌜ ((g : ℕ) → g < generators → 0 < getD (now orders) g 0) ⌝ }
     ensures { λ r. ⌜ r ≡ productOutcome (take generators (now (orders .entry))) ⌝ }
@@ -157,10 +157,10 @@ pub fn group_order(orders: &[u32], generators: usize) -> Product
     while g < generators {
         let o = orders[g] as u64;
         if MAX_WIDE / o < order {
-            return Product::Overflow;
+            return Number::Refused(Refusal::GroupOrderOverflow);
         }
         order = order * o;
         g += 1;
     }
-    Product::Order(order as usize)
+    Number::Value(order as usize)
 }

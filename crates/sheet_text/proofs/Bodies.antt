@@ -13,7 +13,7 @@ use lib.Seq.{length-take-le, drop-drop}
 use borrow.Author.Tests.{eq-eqb, ne-eqb, eqb-true, eqb-false}
 use Rattle.pauli_word.specs.Limits.{maxSites}
 use Rattle.pauli_word.specs.Text.{lettersAlone}
-use Rattle.pauli_word.specs.Outcome.{Outcome, refused, answer, Check, verdict, given}
+use Rattle.outcome.specs.Outcome.{Outcome, refused, answer, Check, verdict, given}
 use Rattle.action.specs.Permutation.{Generator}
 use Rattle.group.proofs.CallLaws.{verdict-append}
 use Rattle.text.specs.Text.{lineEnd, before, pieces, isMode, put}

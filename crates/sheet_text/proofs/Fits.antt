@@ -8,7 +8,7 @@ use native.Mathlib.Omega.{arith}
 use lib.Dec.{ltb, eqb}
 use lib.ListN.{length, getD, drop, length-append}
 use borrow.Author.Tests.{ltb-false}
-use Rattle.pauli_word.specs.Outcome.{Outcome, refused, answer, verdict, given}
+use Rattle.outcome.specs.Outcome.{Outcome, refused, answer, verdict, given}
 use Rattle.action.specs.Permutation.{Generator, Valid}
 use Rattle.action.specs.Index.{orderOf}
 use Rattle.permutation.specs.Limits.{maxOrder}

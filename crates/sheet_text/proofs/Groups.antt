@@ -10,7 +10,7 @@ use lib.Dec.{eqb, ltb}
 use lib.ListN.{length, drop}
 use borrow.Author.Tests.{lt-ltb, le-ltb, ltb-false, eqb-false, not-false}
 use Rattle.pauli_word.specs.Limits.{maxSites}
-use Rattle.pauli_word.specs.Outcome.{answer, verdict}
+use Rattle.outcome.specs.Outcome.{answer, verdict}
 use Rattle.action.specs.Lists.{every}
 use Rattle.action.specs.Permutation.{Generator}
 use Rattle.action.specs.Lattice.{chain, ladder, torus2, torus3}

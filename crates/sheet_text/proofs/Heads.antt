@@ -11,7 +11,7 @@ use lib.Dec.{eqb}
 use lib.ListN.{length, getD, take, drop, length-drop}
 use lib.Seq.{drop-drop}
 use borrow.Author.Tests.{eqb-true, eqb-false, eq-eqb, ne-eqb}
-use Rattle.pauli_word.specs.Outcome.{Outcome, refused, answer, Check, verdict, given}
+use Rattle.outcome.specs.Outcome.{Outcome, refused, answer, Check, verdict, given}
 use Rattle.text.specs.Text.{lineEnd, before, pieces, sameText}
 use Rattle.text.proofs.Pieces.{before-short, pieces-last, pieces-next, pieces-some}
 use Rattle.sheet_text.specs.declared.head.Head.{Head}

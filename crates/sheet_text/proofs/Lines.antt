@@ -12,7 +12,7 @@ use lib.IntN.{ℤ, pos}
 use lib.ListN.{length, getD, take, drop, length-map}
 use borrow.Author.Tests.{eqb-true, eqb-false, eq-eqb, ne-eqb, ltb-true, ltb-false, lt-ltb, le-ltb, not-false}
 use Rattle.pauli_word.specs.Limits.{maxSites}
-use Rattle.pauli_word.specs.Outcome.{Outcome, refused, answer, verdict, given, onAnswer, orElse}
+use Rattle.outcome.specs.Outcome.{Outcome, refused, answer, verdict, given, onAnswer, orElse}
 use Rattle.pauli_word.specs.Word.{Word}
 use Rattle.pauli_word.specs.Text.{letter, lettersAlone, firstOther, readText}
 use Rattle.pauli_word.specs.Calls.{fromTextOutcome}
@@ -23,7 +23,7 @@ use Rattle.generators.specs.Parts.{anyZero}
 use Rattle.group.specs.declared.Group.{Group}
 use Rattle.group.specs.declared.LatticeMade.{LatticeMade}
 use Rattle.group.specs.Value.{groupOf, noGroup}
-use Rattle.group.specs.Calls.{done, itself, outcomeOfLattice, latticeOutcome, chainOutcome, ladderOutcome, torus2Outcome, torus3Outcome}
+use Rattle.group.specs.Calls.{done, itself, outcomeOfVerdict, latticeOutcome, chainOutcome, ladderOutcome, torus2Outcome, torus3Outcome}
 use Rattle.group.proofs.Lattices.{sized}
 use Rattle.text.specs.Text.{sameText, isNumber, numberOf, isMode, modeOf}
 use Rattle.text.specs.Parts.{cap, modeRead, fourFields, fieldLength, fieldsRead}
@@ -168,8 +168,8 @@ rule-answer (answer a) = refl
 
 pub made-shape :
     (r : Shape) (kind : Kind) (a b c : ℕ) (made : LatticeMade) (o : Outcome Group) → latticeFor kind a b c ≡ o
-    → outcomeOfLattice (made .answer) ≡ onAnswer done o → made .group ≡ orElse itself noGroup o
-    → (r .rule ≡ ruleOf (outcomeOfLattice (made .answer))) × (r .kind ≡ kind) × (r .group ≡ made .group)
+    → outcomeOfVerdict (made .answer) ≡ onAnswer done o → made .group ≡ orElse itself noGroup o
+    → (r .rule ≡ ruleOf (outcomeOfVerdict (made .answer))) × (r .kind ≡ kind) × (r .group ≡ made .group)
     → (r .rule ≡ ruleOf (latticeFor kind a b c)) × ((r .kind ≡ kind) × (r .group ≡ orElse itself noGroup (latticeFor kind a b c)))
 made-shape r kind a b c made o e x y (p, q, g) = (p ∙ ap ruleOf x ∙ rule-answer o ∙ ap ruleOf (sym e), (q, g ∙ y ∙ ap (orElse itself noGroup) (sym e)))
 

@@ -11,7 +11,7 @@ use lib.Dec.{eqb, ltb}
 use lib.IntN.{ℤ}
 use lib.ListN.{length, getD, drop}
 use borrow.Author.Tests.{ne-eqb}
-use Rattle.pauli_word.specs.Outcome.{Outcome, refused, answer, verdict, given}
+use Rattle.outcome.specs.Outcome.{Outcome, refused, answer, verdict, given}
 use Rattle.pauli_word.specs.Word.{Letter, I, X, Y, Z, Word, weight}
 use Rattle.pauli_word.specs.Text.{glyph, readText, spell}
 use Rattle.action.specs.Lists.{every}

@@ -11,16 +11,16 @@ use lib.IntN.{ℤ}
 use lib.ListN.{length, getD, take, drop, length-append, length-map}
 use lib.Seq.{take-at, length-take-le}
 use borrow.Author.Tests.{eqb-true, not-false}
-use Rattle.pauli_word.specs.declared.WordRefusal.{WordRefusal}
-use Rattle.pauli_word.specs.declared.WordRefusal.the-variants.{TooManySites, WordLength, BitAboveSites}
+use Rattle.outcome.specs.declared.Refusal.{Refusal}
+use Rattle.outcome.specs.declared.Refusal.the-variants.{TooManySites, WordLength, BitAboveSites}
 use Rattle.pauli_word.specs.declared.Weighed.{Weighed}
 use Rattle.pauli_word.specs.declared.Weighed.the-variants as Weighed
 use Rattle.pauli_word.specs.Limits.{maxSites, planeLength}
-use Rattle.pauli_word.specs.Outcome.{answer, verdict, orElse}
+use Rattle.outcome.specs.Outcome.{answer, verdict, orElse}
 use Rattle.pauli_word.specs.Word.{Letter, I, X, Y, Z, Word, letterWeight, weight}
 use Rattle.pauli_word.specs.Bytes.{decode, encode, AcceptedWord}
 use Rattle.pauli_word.specs.Text.{letter, glyph, lettersAlone, readText, spell}
-use Rattle.pauli_word.specs.Calls.{wordChecks, refusalOf, fromTextBytes, toTextOutcome, toTextBytes, weightOutcome, outcomeOfWeighed}
+use Rattle.pauli_word.specs.Calls.{wordChecks, refusalOf, fromTextBytes, toTextOutcome, toTextBytes, weightOutcome, outcomeOfNumber}
 use Rattle.pauli_word.proofs.Words.{decode-length, decode-encode, encode-accepted}
 use Rattle.pauli_word.proofs.Texts.{spell-readText, no-other}
 use Rattle.pauli_word.proofs.Checks.{accepted-passes, call-answers}
@@ -171,12 +171,12 @@ joined-rest f (g ∷ fs) = ap (λ (t : List ℕ). f ++ (space ∷ t)) (joined-re
 
 -- ---- a word and its text
 
-module _ (n : ℕ) (bytes : List ℕ) (ok : AcceptedWord planeLength n bytes) where
+module _ (n : ℕ) (bytes : List ℕ) (ok : AcceptedWord n bytes) where
   abbrev text : List ℕ
-  text = spell (decode planeLength n bytes)
+  text = spell (lettersIn n bytes)
 
   pub spelled-length : length text ≡ n
-  spelled-length = length-map (decode planeLength n bytes) glyph ∙ decode-length ok
+  spelled-length = length-map (lettersIn n bytes) glyph ∙ decode-length ok
 
   -- the text stands at the front of what spelling gives; `&list[0..n]` denotes it
   pub spelled-front : {list : List ℕ} → list ≡ toTextBytes n bytes → take (n - 0) list ≡ text
@@ -186,20 +186,20 @@ module _ (n : ℕ) (bytes : List ℕ) (ok : AcceptedWord planeLength n bytes) wh
       ap (take (n - 0)) e ∙ rw answers (take-at text _ (n - 0) (omega (arith, spelled-length)))
 
   -- an accepted word has its weight
-  pub weighs : weightOutcome n bytes ≡ answer (weight (decode planeLength n bytes))
+  pub weighs : weightOutcome n bytes ≡ answer (weight (lettersIn n bytes))
   unfolding weightOutcome
-  weighs = call-answers (wordChecks n bytes) (answer (weight (decode planeLength n bytes))) (accepted-passes n bytes ok)
+  weighs = call-answers (wordChecks n bytes) (answer (weight (lettersIn n bytes))) (accepted-passes n bytes ok)
 
-  never : (why : WordRefusal) (k : ℕ) → refusalOf why ≡ answer k → ⊥
+  never : (why : Refusal) (k : ℕ) → refusalOf why ≡ answer k → ⊥
   never TooManySites k e = let z : _≡_ {A = ℕ} 0 1 = cc in omega arith
   never WordLength k e = let z : _≡_ {A = ℕ} 0 1 = cc in omega arith
   never BitAboveSites k e = let z : _≡_ {A = ℕ} 0 1 = cc in omega arith
 
-  pub not-refused : {r : Weighed} {why : WordRefusal} → outcomeOfWeighed r ≡ weightOutcome n bytes → r ≡ Weighed.Refused why → ⊥
-  not-refused {r} {why} e f = never why (weight (decode planeLength n bytes)) (sym (ap outcomeOfWeighed f) ∙ e ∙ weighs)
+  pub not-refused : {r : Weighed} {why : Refusal} → outcomeOfNumber r ≡ weightOutcome n bytes → r ≡ Weighed.Refused why → ⊥
+  not-refused {r} {why} e f = never why (weight (lettersIn n bytes)) (sym (ap outcomeOfNumber f) ∙ e ∙ weighs)
 
-  pub weighed : {r : Weighed} {k : ℕ} → outcomeOfWeighed r ≡ weightOutcome n bytes → r ≡ Weighed.Weight k → k ≡ weight (decode planeLength n bytes)
-  weighed {r} {k} e f = let g : answer k ≡ answer (weight (decode planeLength n bytes)) = sym (ap outcomeOfWeighed f) ∙ e ∙ weighs in cc
+  pub weighed : {r : Weighed} {k : ℕ} → outcomeOfNumber r ≡ weightOutcome n bytes → r ≡ Weighed.Weight k → k ≡ weight (lettersIn n bytes)
+  weighed {r} {k} e f = let g : answer k ≡ answer (weight (lettersIn n bytes)) = sym (ap outcomeOfNumber f) ∙ e ∙ weighs in cc
 
 -- a letter has two bits
 letter-light : (a : Letter) → letterWeight a ≤ 2
@@ -222,18 +222,18 @@ module _ (n : ℕ) (text bytes : List ℕ) (alone : lettersAlone text ≡ true) 
   short : length (readText text) ≤ 8 * planeLength
   short = omega (arith, letters)
 
-  encoded : bytes ≡ encode planeLength (readText text)
+  encoded : bytes ≡ bytesOf (readText text)
   unfolding fromTextBytes
-  encoded = read ∙ ap (orElse (encode planeLength) _) (no-other text (omega arith) alone)
+  encoded = read ∙ ap (orElse bytesOf _) (no-other text (omega arith) alone)
 
-  pub read-accepted : AcceptedWord planeLength n bytes
+  pub read-accepted : AcceptedWord n bytes
   read-accepted = rw (encoded, sym letters) (encode-accepted planeLength (readText text) short)
 
   pub weight-few : weight (readText text) < 10000000
   weight-few = omega (arith, weight-small (readText text), letters)
 
-  pub read-word : decode planeLength n bytes ≡ readText text
-  read-word = ap₂ (decode planeLength) (sym letters) encoded ∙ decode-encode planeLength (readText text) short
+  pub read-word : lettersIn n bytes ≡ readText text
+  read-word = ap₂ (lettersIn) (sym letters) encoded ∙ decode-bytesOf (readText text) short
 
 -- ---- the row of a word
 
@@ -275,14 +275,14 @@ module _ (gs : List Generator) (ks : List ℤ) (text : List ℕ) (alone : letter
 
     module _ {n : ℕ} (valid : Valid n gs) (long : length text ≡ n) (few : n ≤ maxSites) where
       -- the bytes of the least word are accepted, and its letters come back from them
-      pub kept-word : {bytes : List ℕ} → bytes ≡ placementWord gs ks w → AcceptedWord planeLength n bytes × (decode planeLength n bytes ≡ least gs w)
+      pub kept-word : {bytes : List ℕ} → bytes ≡ placementWord gs ks w → AcceptedWord n bytes × (lettersIn n bytes ≡ least gs w)
       kept-word {bytes} m =
           let size : length (least gs w) ≡ n = least-length valid w ∙ length-map text letter ∙ long in
           let short : length (least gs w) ≤ 8 * planeLength = omega arith in
           let (t, index, orbit) = kept-is in
-          let same : bytes ≡ encode planeLength (least gs w) = m ∙ rw t refl in (
+          let same : bytes ≡ bytesOf (least gs w) = m ∙ rw t refl in (
             rw (same, sym size) (encode-accepted planeLength (least gs w) short),
-            ap₂ (decode planeLength) (sym size) same ∙ decode-encode planeLength (least gs w) short,
+            ap₂ (lettersIn) (sym size) same ∙ decode-bytesOf (least gs w) short,
           )
 
       pub kept-small : orderOf gs ≤ maxOrder → (i < 10000000) × (size < 10000000)

@@ -10,7 +10,7 @@ use lib.Dec.{ltb, eqb}
 use lib.ListN.{length, getD, take, drop, length-append, length-drop}
 use lib.Seq.{take-at}
 use borrow.Author.Tests.{lt-ltb, le-ltb, ne-eqb, eq-eqb}
-use Rattle.pauli_word.specs.Outcome.{Outcome, refused, answer, verdict, given}
+use Rattle.outcome.specs.Outcome.{Outcome, refused, answer, verdict, given}
 use Rattle.pauli_word.proofs.Words.{rest-part}
 use Rattle.group.specs.declared.Group.{Group}
 use Rattle.group.specs.Value.{generatorsOf, AcceptedGroup}

@@ -9,7 +9,7 @@ use native.Mathlib.Omega.{arith}
 use lib.IntN.{ℤ}
 use lib.ListN.{length, take, drop, length-append, length-map}
 use Rattle.pauli_word.specs.Word.{Word, weight}
-use Rattle.pauli_word.specs.Outcome.{answer, verdict}
+use Rattle.outcome.specs.Outcome.{answer, verdict}
 use Rattle.pauli_word.specs.Text.{glyph, letter, readText, spell}
 use Rattle.action.specs.Permutation.{Generator, Valid}
 use Rattle.action.specs.Index.{orderOf}

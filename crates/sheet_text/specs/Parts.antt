@@ -6,7 +6,7 @@ use mathlib.Core.List.{List, [], _∷_, _++_}
 use lib.Dec.{eqb}
 use lib.IntN.{ℤ, pos}
 use lib.ListN.{length, getD, take, drop}
-use Rattle.pauli_word.specs.Outcome.{Outcome, refused, answer, verdict}
+use Rattle.outcome.specs.Outcome.{Outcome, refused, answer, verdict}
 use Rattle.group.specs.declared.Group.{Group}
 use Rattle.group.specs.Value.{groupOf}
 use Rattle.group.specs.Calls.{chainOutcome, ladderOutcome, torus2Outcome, torus3Outcome}

@@ -6,7 +6,7 @@ use lib.Dec.{eqb, leb, ltb}
 use lib.IntN.{ℤ, pos}
 use lib.ListN.{length, getD, take, drop}
 use Rattle.pauli_word.specs.Limits.{maxSites}
-use Rattle.pauli_word.specs.Outcome.{Outcome, refused, answer, Check, unless, orElse}
+use Rattle.outcome.specs.Outcome.{Outcome, refused, answer, Check, unless, orElse}
 use Rattle.pauli_word.specs.Word.{Word, weight}
 use Rattle.pauli_word.specs.Text.{lettersAlone, readText, spell}
 use Rattle.action.specs.Lists.{every}

@@ -2,7 +2,7 @@
 ghost use mathlib.Core.Path.{_≡_};
 ghost use Prim.Native.Nat.{_+_, _*_, _≤_};
 ghost use lib.ListN.{length};
-ghost use Rattle.pauli_word.specs.Outcome.{verdict, answer};
+ghost use Rattle.outcome.specs.Outcome.{verdict, answer};
 ghost use Rattle.group.specs.Value.{generatorsOf, AcceptedGroup};
 ghost use Rattle.text.specs.Text.{lineEnd, pieces, put};
 ghost use Rattle.sheet_text.specs.Sheet.{bodyChecks, rows, maxSheet};

@@ -2,7 +2,7 @@
 ghost use mathlib.Core.Path.{_≡_};
 ghost use mathlib.Core.List.{_∷_};
 ghost use Prim.Native.Nat.{_≤_};
-ghost use Rattle.pauli_word.specs.Outcome.{verdict};
+ghost use Rattle.outcome.specs.Outcome.{verdict};
 ghost use Rattle.group.specs.Value.{noGroup};
 ghost use Rattle.text.specs.Text.{lineEnd, pieces};
 ghost use Rattle.sheet_text.specs.Sheet.{lineChecks};

@@ -9,7 +9,7 @@ pub mod row;
 
 ghost use mathlib.Core.Path.{_≡_};
 ghost use lib.ListN.{length};
-ghost use Rattle.pauli_word.specs.Outcome.{onAnswer};
+ghost use Rattle.outcome.specs.Outcome.{onAnswer};
 ghost use Rattle.text.specs.Text.{put};
 ghost use Rattle.sheet_text.specs.Sheet.{sheet, joined, refusedName, maxTable, writtenOutcome, outcomeOfPrinted, listAfter};
 ghost use Rattle.text.specs.Text.{decimal};

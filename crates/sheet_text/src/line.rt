@@ -3,16 +3,14 @@
 ghost use mathlib.Core.Path.{_≡_};
 ghost use mathlib.Core.List.{[], _∷_};
 ghost use Prim.Native.Nat.{ℕ, _≤_};
-ghost use Rattle.pauli_word.specs.Outcome.{verdict, orElse};
+ghost use Rattle.outcome.specs.Outcome.{verdict, orElse};
 ghost use Rattle.group.specs.Value.{noGroup};
-ghost use Rattle.group.specs.Calls.{itself, outcomeOfLattice};
+ghost use Rattle.group.specs.Calls.{itself, outcomeOfVerdict};
 ghost use Rattle.text.specs.Text.{isNumber, isMode};
 ghost use Rattle.sheet_text.specs.Sheet.{shapeOf, sidesOf, modesOf, firstPass, lineShape, sideChecks, shapeChecks, letterChecks, valueChecks};
 ghost use Rattle.sheet_text.specs.Parts.{faultAt, fitsWhere, modeOrZero, latticeFor, ruleOf, sidesGroup, lineGroup};
 use group::Group;
-use group::Lattice;
-use group::LatticeMade;
-use pauli_word::Read;
+use group::Made;
 use text::read::Fields;
 use text::read::Mode;
 
@@ -154,23 +152,23 @@ pub fn lattice(kind: Kind, a: usize, b: usize, c: usize) -> Shape
 }
 
 // A lattice that was made, or the rule that its sides break.
-pub fn shape_made(kind: Kind, made: LatticeMade) -> Shape
-    ensures { λ r. ⌜ (r .rule ≡ ruleOf (outcomeOfLattice (made .answer))) × (r .kind ≡ kind) × (r .group ≡ made .group) ⌝ }
+pub fn shape_made(kind: Kind, made: Made) -> Shape
+    ensures { λ r. ⌜ (r .rule ≡ ruleOf (outcomeOfVerdict (made .answer))) × (r .kind ≡ kind) × (r .group ≡ made .group) ⌝ }
 {
     let answer = made.answer;
     let group = made.group;
     match answer {
-        Lattice::Accepted => Shape {
+        Verdict::Accepted => Shape {
             rule: 0,
             kind,
             group,
         },
-        Lattice::ZeroSide => Shape {
+        Verdict::Refused(Refusal::ZeroSide) => Shape {
             rule: 26,
             kind,
             group,
         },
-        Lattice::SidesTooLarge => Shape {
+        Verdict::Refused(Refusal::SidesTooLarge) => Shape {
             rule: 27,
             kind,
             group,
@@ -242,8 +240,8 @@ pub fn word_fault(sites: usize, word: &[u8]) -> usize
     let read = pauli_word::from_text(word);
     let answer = read.answer;
     match answer {
-        Read::TooManyLetters => 28,
-        Read::NotALetter(_) => 29,
-        Read::Sites(n) => { if n == sites { 0 } else { 16 } }
+        Number::Refused(Refusal::TooManyLetters) => 28,
+        Number::Refused(Refusal::NotALetter(_)) => 29,
+        Number::Value(n) => { if n == sites { 0 } else { 16 } }
     }
 }

@@ -7,7 +7,7 @@ ghost use lib.ListN.{length};
 ghost use Rattle.pauli_word.specs.Limits.{maxSites, planeLength};
 ghost use Rattle.pauli_word.specs.Word.{Word};
 ghost use Rattle.pauli_word.specs.Bytes.{decode, AcceptedWord};
-ghost use Rattle.pauli_word.specs.Outcome.{verdict, answer};
+ghost use Rattle.outcome.specs.Outcome.{verdict, answer};
 ghost use Rattle.pauli_word.specs.Text.{lettersAlone, readText, spell};
 ghost use Rattle.group.specs.Value.{generatorsOf, AcceptedGroup};
 ghost use Rattle.text.specs.Text.{space, decimal, put};
@@ -16,7 +16,6 @@ ghost use Rattle.sheet_text.specs.Sheet.{missing, zeroText, oneText, row
 use group::Group;
 use momentum::inner::Placement;
 use pauli_word::WORD_BYTES;
-use pauli_word::Weighed;
 use text::read::Fields;
 
 // The row of a line with a word and its modes that breaks no rule.
@@ -49,7 +48,7 @@ pub fn word_row(group: Group, modes: &[i32], word: &[u8], list: &mut [u8], at: u
     ensures list { λ _. ⌜ now (list .exit) ≡ put at (rowOf (generatorsOf group) (readText (now (word .entry))) (now (modes .entry))) (now (list .entry)) ⌝ }
 {
     let read = pauli_word::from_text(word).word;
-    let Weighed::Weight(weight) = pauli_word::weight(group.sites, &read) else {
+    let Number::Value(weight) = pauli_word::weight(group.sites, &read) else {
         return at;
     };
     let end = text::write::append(list, at, word);
@@ -84,9 +83,9 @@ pub fn kept_row(
     weight: usize,
 ) -> usize
     requires { ⌜ (index < 10000000) × (size < 10000000) × (weight < 10000000) × (at + (sites + 28) ≤ length (now list)) ⌝ }
-    requires { ⌜ AcceptedWord planeLength sites least ⌝ }
-    ensures place { λ r. ⌜ r ≡ at + length (rest (spell (decode planeLength sites least) ∷ decimal index ∷ decimal size ∷ decimal weight ∷ oneText ∷ [])) ⌝ }
-    ensures list { λ _. ⌜ now (list .exit) ≡ put at (rest (spell (decode planeLength sites least) ∷ decimal index ∷ decimal size ∷ decimal weight ∷ oneText ∷ [])) (now (list .entry)) ⌝ }
+    requires { ⌜ AcceptedWord sites least ⌝ }
+    ensures place { λ r. ⌜ r ≡ at + length (rest (spell (lettersIn sites least) ∷ decimal index ∷ decimal size ∷ decimal weight ∷ oneText ∷ [])) ⌝ }
+    ensures list { λ _. ⌜ now (list .exit) ≡ put at (rest (spell (lettersIn sites least) ∷ decimal index ∷ decimal size ∷ decimal weight ∷ oneText ∷ [])) (now (list .entry)) ⌝ }
 {
     let a = text::write::append(list, at, b" ");
     let b = append_word(list, a, sites, &least);
@@ -117,9 +116,9 @@ pub fn append_number(list: &mut [u8], at: usize, number: usize) -> usize
 
 // Writes the text of a word.
 pub fn append_word(list: &mut [u8], at: usize, sites: usize, word: &[u8]) -> usize
-    requires { ⌜ (at + sites ≤ length (now list)) × AcceptedWord planeLength sites (now word) ⌝ }
+    requires { ⌜ (at + sites ≤ length (now list)) × AcceptedWord sites (now word) ⌝ }
     ensures place { λ r. ⌜ r ≡ at + sites ⌝ }
-    ensures list { λ _. ⌜ now (list .exit) ≡ put at (spell (decode planeLength sites (now (word .entry)))) (now (list .entry)) ⌝ }
+    ensures list { λ _. ⌜ now (list .exit) ≡ put at (spell (lettersIn sites (now (word .entry)))) (now (list .entry)) ⌝ }
 {
     let spelled = pauli_word::to_text(sites, word).text;
     text::write::append(list, at, &spelled[0..sites])

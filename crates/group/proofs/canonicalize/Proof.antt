@@ -4,16 +4,16 @@ use mathlib.Core.Path.{_≡_, sym, ap, _∙_}
 use mathlib.Core.List.{List}
 use denote.Ref.{now}
 use Rattle.pauli_word.specs.Limits.{planeLength}
-use Rattle.pauli_word.specs.Outcome.{answer, verdict, onAnswer, orElse}
+use Rattle.outcome.specs.Outcome.{answer, verdict, onAnswer, orElse}
 use Rattle.pauli_word.specs.Bytes.{decode, encode}
 use Rattle.pauli_word.proofs.Planes.{bytes-of}
 use Rattle.pauli_word.proofs.Checks.{call-answers}
 use Rattle.action.specs.Orbit.{least}
 use Rattle.group.specs.declared.Group.{Group}
-use Rattle.group.specs.declared.Refusal.{Refusal}
+use Rattle.outcome.specs.declared.Refusal.{Refusal}
 use Rattle.group.specs.Value.{generatorsOf}
 use Rattle.group.specs.Calls.{done, refusalOf, wordCallChecks, canonicalizeOutcome, noWord}
-use Rattle.group.specs.Parts.{verdictOfPass}
+use Rattle.group.specs.Parts.{outcomeOfVerdict}
 use Rattle.group.proofs.CallLaws.{call-refused, refusal-stays, refusal-else, call-group, call-sites, call-word}
 use borrow.Author.Needs.{needs}
 use Rattle.group.proofs.canonicalize.Statement.{statement}
@@ -22,11 +22,11 @@ use Rattle.group.proofs.canonicalize.Tie as tie
 module _ (g : Group) (n : ℕ) (bytes : List ℕ) where
   refused-word : (why : Refusal) → verdict (wordCallChecks g n bytes) ≡ refusalOf why → canonicalizeOutcome g n bytes ≡ refusalOf why
   unfolding canonicalizeOutcome
-  refused-word why e = call-refused (wordCallChecks g n bytes) (answer (least (generatorsOf g) (decode planeLength n bytes))) why e
+  refused-word why e = call-refused (wordCallChecks g n bytes) (answer (least (generatorsOf g) (lettersIn n bytes))) why e
 
-  answered-word : verdict (wordCallChecks g n bytes) ≡ answer tt → canonicalizeOutcome g n bytes ≡ answer (least (generatorsOf g) (decode planeLength n bytes))
+  answered-word : verdict (wordCallChecks g n bytes) ≡ answer tt → canonicalizeOutcome g n bytes ≡ answer (least (generatorsOf g) (lettersIn n bytes))
   unfolding canonicalizeOutcome
-  answered-word e = call-answers (wordCallChecks g n bytes) (answer (least (generatorsOf g) (decode planeLength n bytes))) e
+  answered-word e = call-answers (wordCallChecks g n bytes) (answer (least (generatorsOf g) (lettersIn n bytes))) e
 
 word-call-checked-requires : tie.Need-word-call-checked-requires
 word-call-checked-requires c κs = search needs
@@ -41,7 +41,7 @@ least-of-requires : tie.Need-least-of-requires
 least-of-requires c κs =
     let a = c .before .before .before .before .args in
     let bytes = now (a .word) in
-    let pass = sym (c .before .before .word-call-checked .ensures) ∙ ap verdictOfPass (c .enum-told .given .1) in (
+    let pass = sym (c .before .before .word-call-checked .ensures) ∙ ap outcomeOfVerdict (c .enum-told .given .1) in (
       call-group (a .group) (a .n) bytes pass,
       call-word (a .group) (a .n) bytes pass (bytes-of bytes (λ i. c .before .before .before .shared-slice-known .given i .fits)),
     )
@@ -52,22 +52,22 @@ returns c =
     let why = c .before .why .given .0 .0 in
     let e =
     refused-word (a .group) (a .n) (now (a .word)) why
-    (sym (c .before .before .before .word-call-checked .ensures) ∙ ap verdictOfPass (c .before .why .given .1))
+    (sym (c .before .before .before .word-call-checked .ensures) ∙ ap outcomeOfVerdict (c .before .why .given .1))
     in
-    (sym (ap (onAnswer done) e ∙ refusal-stays done why), sym (ap (orElse (encode planeLength) noWord) e ∙ refusal-else (encode planeLength) noWord why))
+    (sym (ap (onAnswer done) e ∙ refusal-stays done why), sym (ap (orElse bytesOf noWord) e ∙ refusal-else bytesOf noWord why))
 
 returns-2 : tie.Need-returns-2
 returns-2 c =
     let a = c .before .before .before .before .before .before .args in
     let g = a .group in
     let bytes = now (a .word) in
-    let pass = sym (c .before .before .before .before .word-call-checked .ensures) ∙ ap verdictOfPass (c .before .before .enum-told .given .1) in
+    let pass = sym (c .before .before .before .before .word-call-checked .ensures) ∙ ap outcomeOfVerdict (c .before .before .enum-told .given .1) in
     let e = answered-word g (a .n) bytes pass in
     let same = call-sites g (a .n) bytes pass in (
       sym (ap (onAnswer done) e),
       c .before .least-of .ensures .0
-          ∙ ap (λ (k : ℕ). encode planeLength (least (generatorsOf g) (decode planeLength k bytes))) (sym same)
-          ∙ sym (ap (orElse (encode planeLength) noWord) e),
+          ∙ ap (λ (k : ℕ). bytesOf (least (generatorsOf g) (lettersIn k bytes))) (sym same)
+          ∙ sym (ap (orElse bytesOf noWord) e),
     )
 
 pub canonicalize-spec : {M : Type 1} → statement M

@@ -4,17 +4,17 @@ use mathlib.Core.Path.{_≡_, sym, ap, _∙_}
 use mathlib.Core.List.{List}
 use denote.Ref.{now}
 use Rattle.pauli_word.specs.Limits.{planeLength}
-use Rattle.pauli_word.specs.Outcome.{answer, verdict, onAnswer, orElse}
+use Rattle.outcome.specs.Outcome.{answer, verdict, onAnswer, orElse}
 use Rattle.pauli_word.specs.Word.{Word}
 use Rattle.pauli_word.specs.Bytes.{decode, encode}
 use Rattle.pauli_word.proofs.Planes.{bytes-of}
 use Rattle.pauli_word.proofs.Checks.{call-answers}
 use Rattle.action.specs.Orbit.{least, indexBack}
 use Rattle.group.specs.declared.Group.{Group}
-use Rattle.group.specs.declared.Refusal.{Refusal}
+use Rattle.outcome.specs.declared.Refusal.{Refusal}
 use Rattle.group.specs.Value.{generatorsOf}
 use Rattle.group.specs.Calls.{wordOf, indexOf, refusalOf, wordCallChecks, withIndexOutcome, noWord}
-use Rattle.group.specs.Parts.{verdictOfPass}
+use Rattle.group.specs.Parts.{outcomeOfVerdict}
 use Rattle.group.proofs.CallLaws.{call-refused, refusal-stays, refusal-else, call-group, call-sites, call-word}
 use borrow.Author.Needs.{needs}
 use Rattle.group.proofs.canonicalize_with_index.Statement.{statement}
@@ -22,7 +22,7 @@ use Rattle.group.proofs.canonicalize_with_index.Tie as tie
 
 -- the answer for an accepted word
 abbrev found : Group → ℕ → List ℕ → Word × ℕ
-found g n bytes = (least (generatorsOf g) (decode planeLength n bytes), indexBack (generatorsOf g) (decode planeLength n bytes))
+found g n bytes = (least (generatorsOf g) (lettersIn n bytes), indexBack (generatorsOf g) (lettersIn n bytes))
 
 module _ (g : Group) (n : ℕ) (bytes : List ℕ) where
   refused-word : (why : Refusal) → verdict (wordCallChecks g n bytes) ≡ refusalOf why → withIndexOutcome g n bytes ≡ refusalOf why
@@ -46,7 +46,7 @@ least-of-requires : tie.Need-least-of-requires
 least-of-requires c κs =
     let a = c .before .before .before .before .args in
     let bytes = now (a .word) in
-    let pass = sym (c .before .before .word-call-checked .ensures) ∙ ap verdictOfPass (c .enum-told .given .1) in (
+    let pass = sym (c .before .before .word-call-checked .ensures) ∙ ap outcomeOfVerdict (c .enum-told .given .1) in (
       call-group (a .group) (a .n) bytes pass,
       call-word (a .group) (a .n) bytes pass (bytes-of bytes (λ i. c .before .before .before .shared-slice-known .given i .fits)),
     )
@@ -57,7 +57,7 @@ returns c =
     let why = c .before .why .given .0 .0 in
     let e =
     refused-word (a .group) (a .n) (now (a .word)) why
-    (sym (c .before .before .before .word-call-checked .ensures) ∙ ap verdictOfPass (c .before .why .given .1))
+    (sym (c .before .before .before .word-call-checked .ensures) ∙ ap outcomeOfVerdict (c .before .why .given .1))
     in
     (sym (ap (onAnswer indexOf) e ∙ refusal-stays indexOf why), sym (ap (orElse wordOf noWord) e ∙ refusal-else wordOf noWord why))
 
@@ -66,14 +66,14 @@ returns-2 c =
     let a = c .before .before .before .before .before .before .args in
     let g = a .group in
     let bytes = now (a .word) in
-    let pass = sym (c .before .before .before .before .word-call-checked .ensures) ∙ ap verdictOfPass (c .before .before .enum-told .given .1) in
+    let pass = sym (c .before .before .before .before .word-call-checked .ensures) ∙ ap outcomeOfVerdict (c .before .before .enum-told .given .1) in
     let e = answered-word g (a .n) bytes pass in
     let same = call-sites g (a .n) bytes pass in (
       ap answer (c .before .least-of .ensures .1)
-          ∙ ap (λ (k : ℕ). answer (indexBack (generatorsOf g) (decode planeLength k bytes))) (sym same)
+          ∙ ap (λ (k : ℕ). answer (indexBack (generatorsOf g) (lettersIn k bytes))) (sym same)
           ∙ sym (ap (onAnswer indexOf) e),
       c .before .least-of .ensures .0
-          ∙ ap (λ (k : ℕ). encode planeLength (least (generatorsOf g) (decode planeLength k bytes))) (sym same)
+          ∙ ap (λ (k : ℕ). bytesOf (least (generatorsOf g) (lettersIn k bytes))) (sym same)
           ∙ sym (ap (orElse wordOf noWord) e),
     )
 

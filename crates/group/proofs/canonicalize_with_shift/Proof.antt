@@ -5,16 +5,16 @@ use mathlib.Core.List.{List, [], _∷_, _++_}
 use lib.ListN.{length}
 use denote.Ref.{now}
 use Rattle.pauli_word.specs.Limits.{planeLength}
-use Rattle.pauli_word.specs.Outcome.{answer, verdict, onAnswer, orElse}
+use Rattle.outcome.specs.Outcome.{answer, verdict, onAnswer, orElse}
 use Rattle.pauli_word.specs.Bytes.{decode}
 use Rattle.pauli_word.proofs.Planes.{bytes-of}
 use Rattle.action.specs.Index.{digits}
 use Rattle.action.specs.Orbit.{least, indexBack}
 use Rattle.group.specs.declared.Group.{Group}
-use Rattle.group.specs.declared.Refusal.{Refusal}
+use Rattle.outcome.specs.declared.Refusal.{Refusal}
 use Rattle.group.specs.Value.{generatorsOf}
 use Rattle.group.specs.Calls.{done, refusalOf, listLength, wordCallChecks, withShiftOutcome, wordOf, shiftOf, noWord}
-use Rattle.group.specs.Parts.{verdictOfPass}
+use Rattle.group.specs.Parts.{outcomeOfVerdict}
 use Rattle.group.proofs.CallLaws.{call-refused, front-refused, refusal-stays, refusal-else, call-group, call-sites, call-word}
 use borrow.Author.Needs.{needs}
 use Rattle.group.proofs.canonicalize_with_shift.Statement.{statement}
@@ -27,7 +27,7 @@ unfolding withShiftOutcome
 refused-word g n bytes k why e =
     let more = listLength k (g .generators) ∷ [] in
     call-refused (wordCallChecks g n bytes ++ more)
-    (answer (least (generatorsOf g) (decode planeLength n bytes), digits (generatorsOf g) (indexBack (generatorsOf g) (decode planeLength n bytes)))) why
+    (answer (least (generatorsOf g) (lettersIn n bytes), digits (generatorsOf g) (indexBack (generatorsOf g) (lettersIn n bytes)))) why
     (front-refused (wordCallChecks g n bytes) more why e)
 
 word-call-checked-requires : tie.Need-word-call-checked-requires
@@ -43,7 +43,7 @@ shift-of-requires : tie.Need-shift-of-requires
 shift-of-requires c κs =
     let a = c .before .before .before .before .before .before .args in
     let bytes = now (a .word) in
-    let pass = sym (c .before .before .before .word-call-checked .ensures) ∙ ap verdictOfPass (c .before .enum-told .given .1) in (
+    let pass = sym (c .before .before .before .word-call-checked .ensures) ∙ ap outcomeOfVerdict (c .before .enum-told .given .1) in (
       call-group (a .group) (a .n) bytes pass,
       call-word (a .group) (a .n) bytes pass (bytes-of bytes (λ i. c .before .before .before .before .before .shared-slice-known .given i .fits)),
     )
@@ -55,7 +55,7 @@ returns c =
     let counter = now (a .counter) in
     let e =
     refused-word (a .group) (a .n) (now (a .word)) (length counter) why
-    (sym (c .before .before .before .word-call-checked .ensures) ∙ ap verdictOfPass (c .before .why .given .1))
+    (sym (c .before .before .before .word-call-checked .ensures) ∙ ap outcomeOfVerdict (c .before .why .given .1))
     in (
       sym (ap (onAnswer done) e ∙ refusal-stays done why),
       (sym (ap (orElse wordOf noWord) e ∙ refusal-else wordOf noWord why), sym (ap (orElse shiftOf counter) e ∙ refusal-else shiftOf counter why)),
@@ -71,7 +71,7 @@ returns-2 c =
     let bytes = now (a .word) in
     let counter = now (a .counter) in
     let t = c .before .before .before .before in
-    let pass = sym (t .before .before .word-call-checked .ensures) ∙ ap verdictOfPass (t .enum-told .given .1) in
+    let pass = sym (t .before .before .word-call-checked .ensures) ∙ ap outcomeOfVerdict (t .enum-told .given .1) in
     let same = ap (λ (k : ℕ). withShiftOutcome g k bytes (length counter)) (sym (call-sites g (a .n) bytes pass)) in (
       c .before .before .shift-of .ensures .0 ∙ ap (onAnswer done) same,
       (

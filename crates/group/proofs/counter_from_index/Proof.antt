@@ -3,11 +3,11 @@ use mathlib.Core.Path.{sym, ap, _∙_}
 use mathlib.Core.List.{[], _∷_, _++_}
 use lib.ListN.{length}
 use denote.Ref.{now}
-use Rattle.pauli_word.specs.Outcome.{answer, onAnswer, orElse}
+use Rattle.outcome.specs.Outcome.{answer, onAnswer, orElse}
 use Rattle.action.specs.Index.{digits}
 use Rattle.group.specs.Value.{generatorsOf}
 use Rattle.group.specs.Calls.{done, itself, valueChecks, indexRange, listLength, counterOutcome}
-use Rattle.group.specs.Parts.{verdictOfPass}
+use Rattle.group.specs.Parts.{outcomeOfVerdict}
 use Rattle.group.proofs.CallLaws.{call-refused, front-refused, refusal-stays, refusal-else, value-accepted}
 use borrow.Author.Needs.{needs}
 use Rattle.group.proofs.counter_from_index.Statement.{statement}
@@ -25,7 +25,7 @@ enum-told c = search needs
 counter-of-requires : tie.Need-counter-of-requires
 counter-of-requires c κs =
     value-accepted (c .before .before .before .before .before .args .group)
-    (sym (c .before .before .before .value-checked .ensures) ∙ ap verdictOfPass (c .before .enum-told .given .1))
+    (sym (c .before .before .before .value-checked .ensures) ∙ ap outcomeOfVerdict (c .before .enum-told .given .1))
 
 returns : tie.Need-returns
 unfolding counterOutcome
@@ -36,7 +36,7 @@ returns c =
     let more = indexRange (a .group) (a .index) ∷ listLength (length list) (a .group .generators) ∷ [] in
     let e =
     call-refused (valueChecks (a .group) ++ more) (answer (digits (generatorsOf (a .group)) (a .index))) why
-    (front-refused (valueChecks (a .group)) more why (sym (c .before .before .before .value-checked .ensures) ∙ ap verdictOfPass (c .before .why .given .1)))
+    (front-refused (valueChecks (a .group)) more why (sym (c .before .before .before .value-checked .ensures) ∙ ap outcomeOfVerdict (c .before .why .given .1)))
     in
     (sym (ap (onAnswer done) e ∙ refusal-stays done why), sym (ap (orElse itself list) e ∙ refusal-else itself list why))
 

@@ -1,11 +1,11 @@
 -- `invert_index` meets its contract: the checks pass or refuse, and an accepted group is what `inner::inverse_of` asks.
 use mathlib.Core.Path.{sym, ap, _∙_}
 use mathlib.Core.List.{[], _∷_, _++_}
-use Rattle.pauli_word.specs.Outcome.{answer}
+use Rattle.outcome.specs.Outcome.{answer}
 use Rattle.action.specs.Index.{inverse}
 use Rattle.group.specs.Value.{generatorsOf}
 use Rattle.group.specs.Calls.{valueChecks, indexRange, invertOutcome}
-use Rattle.group.specs.Parts.{verdictOfPass}
+use Rattle.group.specs.Parts.{outcomeOfVerdict}
 use Rattle.group.proofs.CallLaws.{call-refused, front-refused, value-accepted}
 use borrow.Author.Needs.{needs}
 use Rattle.group.proofs.invert_index.Statement.{statement}
@@ -22,7 +22,7 @@ enum-told c = search needs
 
 inverse-of-requires : tie.Need-inverse-of-requires
 inverse-of-requires c κs =
-    value-accepted (c .before .before .before .args .group) (sym (c .before .before .value-checked .ensures) ∙ ap verdictOfPass (c .enum-told .given .1))
+    value-accepted (c .before .before .before .args .group) (sym (c .before .before .value-checked .ensures) ∙ ap outcomeOfVerdict (c .enum-told .given .1))
 
 returns : tie.Need-returns
 unfolding invertOutcome
@@ -32,7 +32,7 @@ returns c =
     let more = indexRange (a .group) (a .index) ∷ [] in
     sym
     (call-refused (valueChecks (a .group) ++ more) (answer (inverse (generatorsOf (a .group)) (a .index))) why
-    (front-refused (valueChecks (a .group)) more why (sym (c .before .before .before .value-checked .ensures) ∙ ap verdictOfPass (c .before .why .given .1))))
+    (front-refused (valueChecks (a .group)) more why (sym (c .before .before .before .value-checked .ensures) ∙ ap outcomeOfVerdict (c .before .why .given .1))))
 
 returns-2 : tie.Need-returns-2
 returns-2 c = search needs

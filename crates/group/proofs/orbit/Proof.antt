@@ -3,13 +3,13 @@ use Prim.Native.Nat.{ℕ}
 use mathlib.Core.Path.{_≡_, sym, ap, _∙_}
 use mathlib.Core.List.{List}
 use denote.Ref.{now}
-use Rattle.pauli_word.specs.Outcome.{answer, verdict, onAnswer, orElse}
+use Rattle.outcome.specs.Outcome.{answer, verdict, onAnswer, orElse}
 use Rattle.pauli_word.proofs.Checks.{call-answers}
 use Rattle.group.specs.declared.Group.{Group}
 use Rattle.group.specs.declared.Walk.{Walk}
-use Rattle.group.specs.declared.Refusal.{Refusal}
+use Rattle.outcome.specs.declared.Refusal.{Refusal}
 use Rattle.group.specs.Calls.{done, itself, refusalOf, wordCallChecks, beginOutcome, noWalk}
-use Rattle.group.specs.Parts.{verdictOfPass}
+use Rattle.group.specs.Parts.{outcomeOfVerdict}
 use Rattle.group.proofs.CallLaws.{call-refused, refusal-stays, refusal-else, call-long}
 use borrow.Author.Needs.{needs}
 use Rattle.group.proofs.orbit.Statement.{statement}
@@ -43,7 +43,7 @@ enum-told c = search needs
 walk-from-requires : tie.Need-walk-from-requires
 walk-from-requires c κs =
     let a = c .before .before .before .before .args in
-    call-long (a .group) (a .n) (now (a .word)) (sym (c .before .before .word-call-checked .ensures) ∙ ap verdictOfPass (c .enum-told .given .1))
+    call-long (a .group) (a .n) (now (a .word)) (sym (c .before .before .word-call-checked .ensures) ∙ ap outcomeOfVerdict (c .enum-told .given .1))
 
 returns : tie.Need-returns
 returns c =
@@ -51,7 +51,7 @@ returns c =
     let why = c .before .before .why .given .0 .0 in
     let e =
     refused-beginning (a .group) (a .n) (now (a .word)) why
-    (sym (c .before .before .before .before .word-call-checked .ensures) ∙ ap verdictOfPass (c .before .before .why .given .1))
+    (sym (c .before .before .before .before .word-call-checked .ensures) ∙ ap outcomeOfVerdict (c .before .before .why .given .1))
     in
     (sym (ap (onAnswer done) e ∙ refusal-stays done why), c .no-walk .ensures ∙ sym (ap (orElse itself noWalk) e ∙ refusal-else itself noWalk why))
 
@@ -60,7 +60,7 @@ returns-2 c =
     let a = c .before .before .before .before .before .args in
     let e =
     beginning (a .group) (a .n) (now (a .word))
-    (sym (c .before .before .before .word-call-checked .ensures) ∙ ap verdictOfPass (c .before .enum-told .given .1))
+    (sym (c .before .before .before .word-call-checked .ensures) ∙ ap outcomeOfVerdict (c .before .enum-told .given .1))
     in
     let w = c .walk-from .ensures in
     (sym (ap (onAnswer done) e), same-walk (w .0) (w .1) (w .2) ∙ sym (ap (orElse itself noWalk) e))

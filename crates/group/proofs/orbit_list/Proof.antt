@@ -5,17 +5,17 @@ use mathlib.Core.List.{List, [], _∷_, _++_}
 use lib.ListN.{length}
 use denote.Ref.{now}
 use Rattle.pauli_word.specs.Limits.{planeLength, wordLength}
-use Rattle.pauli_word.specs.Outcome.{answer, verdict, onAnswer, orElse}
+use Rattle.outcome.specs.Outcome.{answer, verdict, onAnswer, orElse}
 use Rattle.pauli_word.specs.Bytes.{decode}
 use Rattle.pauli_word.proofs.Planes.{bytes-of}
 use Rattle.action.specs.Index.{orderOf}
 use Rattle.action.specs.Orbit.{orbitList}
 use Rattle.orbit.specs.Tables.{encodeAll}
 use Rattle.group.specs.declared.Group.{Group}
-use Rattle.group.specs.declared.Refusal.{Refusal}
+use Rattle.outcome.specs.declared.Refusal.{Refusal}
 use Rattle.group.specs.Value.{generatorsOf}
 use Rattle.group.specs.Calls.{done, refusalOf, listLength, wordCallChecks, orbitListOutcome}
-use Rattle.group.specs.Parts.{verdictOfPass}
+use Rattle.group.specs.Parts.{outcomeOfVerdict}
 use Rattle.group.proofs.CallLaws.{call-refused, front-refused, refusal-stays, refusal-else, call-group, call-sites, call-word}
 use borrow.Author.Needs.{needs}
 use Rattle.group.proofs.orbit_list.Statement.{statement}
@@ -28,7 +28,7 @@ unfolding orbitListOutcome
 refused-word g n bytes k why e =
     let more = listLength k (wordLength * orderOf (generatorsOf g)) ∷ [] in
     call-refused (wordCallChecks g n bytes ++ more)
-    (answer (orbitList (generatorsOf g) (decode planeLength n bytes))) why
+    (answer (orbitList (generatorsOf g) (lettersIn n bytes))) why
     (front-refused (wordCallChecks g n bytes) more why e)
 
 word-call-checked-requires : tie.Need-word-call-checked-requires
@@ -44,7 +44,7 @@ orbit-of-requires : tie.Need-orbit-of-requires
 orbit-of-requires c κs =
     let a = c .before .before .before .before .before .before .args in
     let bytes = now (a .word) in
-    let pass = sym (c .before .before .before .word-call-checked .ensures) ∙ ap verdictOfPass (c .before .enum-told .given .1) in (
+    let pass = sym (c .before .before .before .word-call-checked .ensures) ∙ ap outcomeOfVerdict (c .before .enum-told .given .1) in (
       call-group (a .group) (a .n) bytes pass,
       call-word (a .group) (a .n) bytes pass (bytes-of bytes (λ i. c .before .before .before .before .before .shared-slice-known .given i .fits)),
     )
@@ -56,7 +56,7 @@ returns c =
     let list = now (a .list) in
     let e =
     refused-word (a .group) (a .n) (now (a .word)) (length list) why
-    (sym (c .before .before .before .word-call-checked .ensures) ∙ ap verdictOfPass (c .before .why .given .1))
+    (sym (c .before .before .before .word-call-checked .ensures) ∙ ap outcomeOfVerdict (c .before .why .given .1))
     in (
       sym (ap (onAnswer done) e ∙ refusal-stays done why),
       sym (ap (orElse encodeAll list) e ∙ refusal-else encodeAll list why),
@@ -72,7 +72,7 @@ returns-2 c =
     let bytes = now (a .word) in
     let list = now (a .list) in
     let t = c .before .before .before .before in
-    let pass = sym (t .before .before .word-call-checked .ensures) ∙ ap verdictOfPass (t .enum-told .given .1) in
+    let pass = sym (t .before .before .word-call-checked .ensures) ∙ ap outcomeOfVerdict (t .enum-told .given .1) in
     let same = ap (λ (k : ℕ). orbitListOutcome g k bytes (length list)) (sym (call-sites g (a .n) bytes pass)) in (
       c .before .before .orbit-of .ensures .0 ∙ ap (onAnswer done) same,
       c .before .before .orbit-of .ensures .1 ∙ ap (orElse encodeAll list) same,

@@ -1,11 +1,11 @@
 -- `order` meets its contract: the checks pass or refuse, and the order of an accepted group is what it answers.
 use mathlib.Core.Path.{sym, ap, _∙_}
-use Rattle.pauli_word.specs.Outcome.{answer}
+use Rattle.outcome.specs.Outcome.{answer}
 use Rattle.pauli_word.proofs.Checks.{call-answers}
 use Rattle.action.specs.Index.{orderOf}
 use Rattle.group.specs.Value.{generatorsOf}
 use Rattle.group.specs.Calls.{valueChecks, orderOutcome}
-use Rattle.group.specs.Parts.{verdictOfPass}
+use Rattle.group.specs.Parts.{outcomeOfVerdict}
 use Rattle.group.proofs.CallLaws.{call-refused, value-accepted}
 use borrow.Author.Needs.{needs}
 use Rattle.group.proofs.order.Statement.{statement}
@@ -22,7 +22,7 @@ enum-told c = search needs
 
 order-of-requires : tie.Need-order-of-requires
 order-of-requires c κs =
-    value-accepted (c .before .before .before .args .group) (sym (c .before .before .value-checked .ensures) ∙ ap verdictOfPass (c .enum-told .given .1))
+    value-accepted (c .before .before .before .args .group) (sym (c .before .before .value-checked .ensures) ∙ ap outcomeOfVerdict (c .enum-told .given .1))
 
 returns : tie.Need-returns
 unfolding orderOutcome
@@ -30,7 +30,7 @@ returns c =
     let g = c .before .before .before .before .args .group in
     sym
     (call-refused (valueChecks g) (answer (orderOf (generatorsOf g))) (c .before .why .given .0 .0)
-    (sym (c .before .before .before .value-checked .ensures) ∙ ap verdictOfPass (c .before .why .given .1)))
+    (sym (c .before .before .before .value-checked .ensures) ∙ ap outcomeOfVerdict (c .before .why .given .1)))
 
 returns-2 : tie.Need-returns-2
 unfolding orderOutcome
@@ -39,7 +39,7 @@ returns-2 c =
     ap answer (c .order-of .ensures)
     ∙ sym
     (call-answers (valueChecks g) (answer (orderOf (generatorsOf g)))
-    (sym (c .before .before .before .value-checked .ensures) ∙ ap verdictOfPass (c .before .enum-told .given .1)))
+    (sym (c .before .before .before .value-checked .ensures) ∙ ap outcomeOfVerdict (c .before .enum-told .given .1)))
 
 pub order-spec : {M : Type 1} → statement M
 order-spec =

@@ -1,11 +1,11 @@
 -- `phase_modulus` meets its contract: the checks pass or refuse, and the phase modulus of an accepted group is what it answers.
 use mathlib.Core.Path.{sym, ap, _∙_}
-use Rattle.pauli_word.specs.Outcome.{answer}
+use Rattle.outcome.specs.Outcome.{answer}
 use Rattle.pauli_word.proofs.Checks.{call-answers}
 use Rattle.action.specs.Sector.{modulus}
 use Rattle.group.specs.Value.{generatorsOf}
 use Rattle.group.specs.Calls.{valueChecks, modulusOutcome}
-use Rattle.group.specs.Parts.{verdictOfPass}
+use Rattle.group.specs.Parts.{outcomeOfVerdict}
 use Rattle.group.proofs.CallLaws.{call-refused, value-accepted}
 use borrow.Author.Needs.{needs}
 use Rattle.group.proofs.phase_modulus.Statement.{statement}
@@ -22,7 +22,7 @@ enum-told c = search needs
 
 modulus-of-requires : tie.Need-modulus-of-requires
 modulus-of-requires c κs =
-    value-accepted (c .before .before .before .args .group) (sym (c .before .before .value-checked .ensures) ∙ ap verdictOfPass (c .enum-told .given .1))
+    value-accepted (c .before .before .before .args .group) (sym (c .before .before .value-checked .ensures) ∙ ap outcomeOfVerdict (c .enum-told .given .1))
 
 returns : tie.Need-returns
 unfolding modulusOutcome
@@ -30,7 +30,7 @@ returns c =
     let g = c .before .before .before .before .args .group in
     sym
     (call-refused (valueChecks g) (answer (modulus (generatorsOf g))) (c .before .why .given .0 .0)
-    (sym (c .before .before .before .value-checked .ensures) ∙ ap verdictOfPass (c .before .why .given .1)))
+    (sym (c .before .before .before .value-checked .ensures) ∙ ap outcomeOfVerdict (c .before .why .given .1)))
 
 returns-2 : tie.Need-returns-2
 unfolding modulusOutcome
@@ -39,7 +39,7 @@ returns-2 c =
     ap answer (c .modulus-of .ensures)
     ∙ sym
     (call-answers (valueChecks g) (answer (modulus (generatorsOf g)))
-    (sym (c .before .before .before .value-checked .ensures) ∙ ap verdictOfPass (c .before .enum-told .given .1)))
+    (sym (c .before .before .before .value-checked .ensures) ∙ ap outcomeOfVerdict (c .before .enum-told .given .1)))
 
 pub phase-modulus-spec : {M : Type 1} → statement M
 phase-modulus-spec =

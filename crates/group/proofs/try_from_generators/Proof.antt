@@ -6,9 +6,9 @@ use mathlib.Core.List.{[], _∷_}
 use native.Mathlib.Omega.{arith}
 use lib.ListN.{length}
 use denote.Ref.{now}
-use Rattle.pauli_word.specs.Outcome.{refused}
+use Rattle.outcome.specs.Outcome.{refused}
 use Rattle.permutation.specs.Generators.{endsInside, permsOf}
-use Rattle.generators.specs.declared.GroupRefusal.the-variants as GroupRefusal
+use Rattle.outcome.specs.declared.Refusal.the-variants as Refusal
 use Rattle.group.proofs.Making.{scan-inside, scan-whole, refused-made, many-sites, ends-early, many-generators, other-count}
 use borrow.Author.Needs.{needs}
 use Rattle.group.proofs.try_from_generators.Statement.{statement}
@@ -30,7 +30,7 @@ returns : tie.Need-returns
 returns c =
     let a = c .before .before .before .before .args in
     let r = c .refused in
-    refused-made (a .sites) (now (a .list)) (now (a .orders)) GroupRefusal.TooManySites
+    refused-made (a .sites) (now (a .list)) (now (a .orders)) Refusal.TooManySites
     (many-sites (a .sites) (now (a .list)) (now (a .orders)) (c .before .if1 .taken))
     (r .result) (r .ensures .0) (r .ensures .1)
 
@@ -50,7 +50,7 @@ returns-2 : tie.Need-returns-2
 returns-2 c =
     let a = c .before .before .before .before .before .before .before .args in
     let r = c .refused2 in
-    refused-made (a .sites) (now (a .list)) (now (a .orders)) GroupRefusal.ListEndsInside
+    refused-made (a .sites) (now (a .list)) (now (a .orders)) Refusal.ListEndsInside
     (ends-early (a .sites) (now (a .list)) (now (a .orders)) (c .before .before .before .before .if1 .left)
     (scan-inside (now (a .list)) (sym (c .before .before .before .count-generators .ensures) ∙ c .before .enum-told .given .1)))
     (r .result) (r .ensures .0) (r .ensures .1)
@@ -64,7 +64,7 @@ returns-3 c =
     let a = t .before .before .before .before .before .before .before .args in
     let (whole, count) = counted t in
     let r = c .refused3 in
-    refused-made (a .sites) (now (a .list)) (now (a .orders)) GroupRefusal.TooManyGenerators
+    refused-made (a .sites) (now (a .list)) (now (a .orders)) Refusal.TooManyGenerators
     (many-generators (a .sites) (now (a .list)) (now (a .orders)) (t .before .before .before .before .if1 .left) whole
     (omega (arith, count, c .before .if2 .taken)))
     (r .result) (r .ensures .0) (r .ensures .1)
@@ -79,7 +79,7 @@ returns-4 c =
     let k = t .before .count .given .0 .0 in
     let (whole, count) = counted t in
     let r = c .refused4 in
-    refused-made (a .sites) (now (a .list)) (now (a .orders)) (GroupRefusal.LengthMismatch k (length (now (a .orders))))
+    refused-made (a .sites) (now (a .list)) (now (a .orders)) (Refusal.LengthMismatch k (length (now (a .orders))))
     (other-count (a .sites) (now (a .list)) (now (a .orders)) (t .before .before .before .before .if1 .left) whole
     (omega (arith, count, c .before .before .if2 .left))
     (λ e. c .before .if3 .taken (count ∙ e))

@@ -4,10 +4,10 @@ use mathlib.Core.Path.{sym, ap, _∙_}
 use lib.ListN.{length}
 use denote.Ref.{now}
 use borrow.Author.Needs.{needs}
-use Rattle.pauli_word.specs.Outcome.{onAnswer, orElse}
+use Rattle.outcome.specs.Outcome.{onAnswer, orElse}
 use Rattle.pauli_word.proofs.Planes.{bytes-of}
 use Rattle.group.specs.Calls.{noWord}
-use Rattle.group.specs.Parts.{verdictOfPass}
+use Rattle.group.specs.Parts.{outcomeOfVerdict}
 use Rattle.group.proofs.CallLaws.{refusal-stays, refusal-else, call-group, call-sites, call-word}
 use Rattle.momentum.specs.Calls.{sectorOutcome, outcomeOfSector, sizeOf, rowWord, rowCounter}
 use Rattle.momentum.proofs.Outcomes.{sector-refused}
@@ -30,7 +30,7 @@ sector-of-requires : tie.Need-sector-of-requires
 sector-of-requires c κs =
     let a = c .before .before .before .before .before .before .args in
     let bytes = now (a .word) in
-    let pass = sym (c .before .before .before .word-call-checked .ensures) ∙ ap verdictOfPass (c .before .enum-told .given .1) in (
+    let pass = sym (c .before .before .before .word-call-checked .ensures) ∙ ap outcomeOfVerdict (c .before .enum-told .given .1) in (
       call-group (a .group) (a .n) bytes pass,
       call-word (a .group) (a .n) bytes pass (bytes-of bytes (λ i. c .before .before .before .before .before .shared-slice-known .given i .fits)),
     )
@@ -42,7 +42,7 @@ returns c =
     let counter = now (a .counter) in
     let e =
     sector-refused (a .group) (a .n) (now (a .word)) (now (a .modes)) (length counter) why
-    (sym (c .before .before .before .before .word-call-checked .ensures) ∙ ap verdictOfPass (c .before .before .why .given .1))
+    (sym (c .before .before .before .before .word-call-checked .ensures) ∙ ap outcomeOfVerdict (c .before .before .why .given .1))
     in (
       ap outcomeOfSector (c .no-row .ensures .0) ∙ sym (ap (onAnswer sizeOf) e ∙ refusal-stays sizeOf why),
       (
@@ -61,7 +61,7 @@ returns-2 c =
     let bytes = now (a .word) in
     let counter = now (a .counter) in
     let t = c .before .before .before .before in
-    let pass = sym (t .before .before .word-call-checked .ensures) ∙ ap verdictOfPass (t .enum-told .given .1) in
+    let pass = sym (t .before .before .word-call-checked .ensures) ∙ ap outcomeOfVerdict (t .enum-told .given .1) in
     let same = ap (λ (k : ℕ). sectorOutcome g k bytes (now (a .modes)) (length counter)) (sym (call-sites g (a .n) bytes pass)) in
     let got = c .before .before .sector-of .ensures in (
       got .0 ∙ ap (onAnswer sizeOf) same,

@@ -3,11 +3,11 @@ use mathlib.Core.Path.{sym, ap, _∙_}
 use mathlib.Core.List.{[], _∷_, _++_}
 use denote.Ref.{now}
 use borrow.Author.Needs.{needs}
-use Rattle.pauli_word.specs.Outcome.{answer}
+use Rattle.outcome.specs.Outcome.{answer}
 use Rattle.action.specs.Sector.{numerator}
 use Rattle.group.specs.Value.{generatorsOf}
 use Rattle.group.specs.Calls.{valueChecks}
-use Rattle.group.specs.Parts.{verdictOfPass}
+use Rattle.group.specs.Parts.{outcomeOfVerdict}
 use Rattle.group.proofs.CallLaws.{call-refused, front-refused, value-accepted}
 use Rattle.momentum.specs.Calls.{modeCount, counterLength, numeratorOutcome}
 use Rattle.momentum.proofs.character_numerator.Statement.{statement}
@@ -24,7 +24,7 @@ enum-told c = search needs
 
 numerator-of-requires : tie.Need-numerator-of-requires
 numerator-of-requires c κs =
-    value-accepted (c .before .before .before .before .args .group) (sym (c .before .before .value-checked .ensures) ∙ ap verdictOfPass (c .enum-told .given .1))
+    value-accepted (c .before .before .before .before .args .group) (sym (c .before .before .value-checked .ensures) ∙ ap outcomeOfVerdict (c .enum-told .given .1))
 
 returns : tie.Need-returns
 unfolding numeratorOutcome
@@ -34,7 +34,7 @@ returns c =
     let more = modeCount (a .group) (now (a .modes)) ∷ counterLength (a .group) (now (a .counter)) ∷ [] in
     let e =
     call-refused (valueChecks (a .group) ++ more) (answer (numerator (generatorsOf (a .group)) (now (a .modes)) (now (a .counter)))) why
-    (front-refused (valueChecks (a .group)) more why (sym (c .before .before .before .value-checked .ensures) ∙ ap verdictOfPass (c .before .why .given .1)))
+    (front-refused (valueChecks (a .group)) more why (sym (c .before .before .before .value-checked .ensures) ∙ ap outcomeOfVerdict (c .before .why .given .1)))
     in
     sym e
 

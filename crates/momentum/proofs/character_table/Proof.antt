@@ -4,11 +4,11 @@ use mathlib.Core.List.{[], _∷_, _++_}
 use lib.ListN.{length}
 use denote.Ref.{now}
 use borrow.Author.Needs.{needs}
-use Rattle.pauli_word.specs.Outcome.{answer, onAnswer, orElse}
+use Rattle.outcome.specs.Outcome.{answer, onAnswer, orElse}
 use Rattle.action.specs.Index.{orderOf}
 use Rattle.group.specs.Value.{generatorsOf}
 use Rattle.group.specs.Calls.{done, itself, valueChecks, listLength}
-use Rattle.group.specs.Parts.{verdictOfPass}
+use Rattle.group.specs.Parts.{outcomeOfVerdict}
 use Rattle.group.proofs.CallLaws.{call-refused, front-refused, refusal-stays, refusal-else, value-accepted}
 use Rattle.momentum.specs.Calls.{modeCount, numerators, tableOutcome}
 use Rattle.momentum.proofs.character_table.Statement.{statement}
@@ -25,7 +25,7 @@ enum-told c = search needs
 
 table-of-requires : tie.Need-table-of-requires
 table-of-requires c κs =
-    value-accepted (c .before .before .before .before .before .args .group) (sym (c .before .before .before .value-checked .ensures) ∙ ap verdictOfPass (c .before .enum-told .given .1))
+    value-accepted (c .before .before .before .before .before .args .group) (sym (c .before .before .before .value-checked .ensures) ∙ ap outcomeOfVerdict (c .before .enum-told .given .1))
 
 returns : tie.Need-returns
 unfolding tableOutcome
@@ -36,7 +36,7 @@ returns c =
     let more = modeCount (a .group) (now (a .modes)) ∷ listLength (length list) (orderOf (generatorsOf (a .group))) ∷ [] in
     let e =
     call-refused (valueChecks (a .group) ++ more) (answer (numerators (generatorsOf (a .group)) (now (a .modes)))) why
-    (front-refused (valueChecks (a .group)) more why (sym (c .before .before .before .value-checked .ensures) ∙ ap verdictOfPass (c .before .why .given .1)))
+    (front-refused (valueChecks (a .group)) more why (sym (c .before .before .before .value-checked .ensures) ∙ ap outcomeOfVerdict (c .before .why .given .1)))
     in
     (sym (ap (onAnswer done) e ∙ refusal-stays done why), sym (ap (orElse itself list) e ∙ refusal-else itself list why))
 

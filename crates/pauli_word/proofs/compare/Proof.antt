@@ -1,77 +1,53 @@
--- `compare` meets its contract. The loop's invariant: the words compare as their bytes from i on.
-use Prim.Native.Nat.{_-_, _≤_, min}
-use mathlib.Core.Path.{_≡_, refl, sym, _∙_}
-use native.Mathlib.Omega.{arith}
-use borrow.Author.Needs.{needs}
-use lib.ListN.{length, drop}
+-- `compare` meets its contract: the checks pass or refuse, and the order of the bytes of accepted words is that of the words.
+use mathlib.Core.Path.{sym, ap, _∙_}
 use denote.Ref.{now}
-use Rattle.pauli_word.specs.Bytes.{planeBits}
-use Rattle.pauli_word.specs.Calls.{orderOfBits}
-use Rattle.pauli_word.proofs.Order.{byte-apart, byte-same, bytes-end}
+use Rattle.outcome.specs.Outcome.{answer, outcomeOfVerdict}
+use Rattle.outcome.proofs.Outcomes.{call-refused, call-answers}
+use Rattle.pauli_word.specs.Bytes.{lettersIn}
+use Rattle.pauli_word.specs.Calls.{compareChecks, compareOutcome, orderOfWords}
+use Rattle.pauli_word.proofs.Planes.{bytes-of}
+use Rattle.pauli_word.proofs.Order.{order-words}
+use Rattle.pauli_word.proofs.Checks.{compare-accepted}
+use borrow.Author.Needs.{needs}
 use Rattle.pauli_word.proofs.compare.Statement.{statement}
 use Rattle.pauli_word.proofs.compare.Tie as tie
 
-abbrev Inv-loop : tie.InvT-loop
-Inv-loop a b n i₀ i = (n ≡ min (length a) (length b)) × (i ≤ n) × (orderOfBits (planeBits a) (planeBits b) ≡ orderOfBits (planeBits (drop i a)) (planeBits (drop i b)))
+both-checked-requires : tie.Need-both-checked-requires
+both-checked-requires c κs = search needs
 
-abbrev μ-loop : tie.MeasureT-loop
-μ-loop a b n i₀ i = n - i
+enum-known-why : tie.Need-enum-known-why
+enum-known-why c = search needs
 
-shorter-requires : tie.Need-shorter-requires Inv-loop μ-loop
-shorter-requires c κs = search needs
+enum-told : tie.Need-enum-told
+enum-told c = search needs
 
-loop-holds : tie.Need-loop-holds Inv-loop μ-loop
-loop-holds c = (c .shorter .ensures, omega arith, refl)
+compare-bytes-requires : tie.Need-compare-bytes-requires
+compare-bytes-requires c κs = search needs
 
-shared-slice-read-x : tie.Need-shared-slice-read-x Inv-loop μ-loop
-shared-slice-read-x c = omega arith
-
-shared-slice-read-y : tie.Need-shared-slice-read-y Inv-loop μ-loop
-shared-slice-read-y c = omega arith
-
-compare-byte-requires : tie.Need-compare-byte-requires Inv-loop μ-loop
-compare-byte-requires c κs = search needs
-
-returns : tie.Need-returns Inv-loop μ-loop
+returns : tie.Need-returns
+unfolding compareOutcome
 returns c =
-    let a = c .before .before .before .before .before .before .before .before .before .args in
-    let l = c .before .before .before .before .before .loop in
-    let xs = c .before .before .before .shared-slice-known3 .given (l .i) in
-    let ys = c .before .before .shared-slice-known4 .given (l .i) in
-    c .compare-byte .ensures
-    ∙ sym (l .inv .2 ∙ byte-apart (now (a .a)) (now (a .b)) (l .i) (omega arith) (omega arith) (xs .fits) (ys .fits) (c .before .if1 .taken))
+    let a = c .before .before .before .before .before .before .args in
+    sym
+    (call-refused (compareChecks (a .n) (now (a .a)) (now (a .b))) (answer (orderOfWords (lettersIn (a .n) (now (a .a))) (lettersIn (a .n) (now (a .b)))))
+    (c .before .why .given .0 .0)
+    (sym (c .before .before .before .both-checked .ensures) ∙ ap outcomeOfVerdict (c .before .why .given .1)))
 
-add-i : tie.Need-add-i Inv-loop μ-loop
-add-i c = omega arith
-
-loop-less : tie.Need-loop-less Inv-loop μ-loop
-loop-less c = omega arith
-
-loop-again : tie.Need-loop-again Inv-loop μ-loop
-loop-again c =
-    let a = c .before .before .before .before .before .before .before .before .args in
-    let l = c .before .before .before .before .loop in
-    (l .inv .0, omega arith, l .inv .2 ∙ byte-same (now (a .a)) (now (a .b)) (l .i) (omega arith) (omega arith) (c .if1 .left))
-
-returns-2 : tie.Need-returns-2 Inv-loop μ-loop
+returns-2 : tie.Need-returns-2
+unfolding compareOutcome
 returns-2 c =
-    let a = c .before .before .before .before .before .args in
-    let l = c .before .loop in
-    sym (l .inv .2 ∙ bytes-end (now (a .a)) (now (a .b)) (l .i) (omega arith))
+    let a = c .before .before .before .before .before .before .args in
+    let pass = sym (c .before .before .before .both-checked .ensures) ∙ ap outcomeOfVerdict (c .before .enum-told .given .1) in
+    let ok =
+    compare-accepted (a .n) (now (a .a)) (now (a .b)) pass (bytes-of (now (a .a)) (λ i. c .before .before .before .before .before .shared-slice-known .given i .fits))
+    (bytes-of (now (a .b)) (λ i. c .before .before .before .before .shared-slice-known2 .given i .fits))
+    in
+    ap answer (c .compare-bytes .ensures ∙ order-words (ok .0) (ok .1))
+    ∙ sym
+    (call-answers (compareChecks (a .n) (now (a .a)) (now (a .b))) (answer (orderOfWords (lettersIn (a .n) (now (a .a))) (lettersIn (a .n) (now (a .b)))))
+    pass)
 
 pub compare-spec : {M : Type 1} → statement M
 compare-spec =
     tie.close
-    (tie.spec
-    Inv-loop
-    μ-loop
-    shorter-requires
-    loop-holds
-    shared-slice-read-x
-    shared-slice-read-y
-    compare-byte-requires
-    returns
-    add-i
-    loop-less
-    loop-again
-    returns-2)
+    (tie.spec both-checked-requires enum-known-why enum-told compare-bytes-requires returns returns-2)

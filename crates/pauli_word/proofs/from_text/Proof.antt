@@ -8,8 +8,8 @@ use borrow.Author.Needs.{needs}
 use lib.ListN.{length, take, getD, replicate, length-map}
 use denote.Ref.{now}
 use Rattle.pauli_word.specs.Limits.{planeLength, wordLength}
-use Rattle.pauli_word.specs.Outcome.{answer, onAnswer, orElse}
-use Rattle.pauli_word.specs.Bytes.{planeOf, number, encode, withSite}
+use Rattle.outcome.specs.Outcome.{answer, onAnswer, orElse, given}
+use Rattle.pauli_word.specs.Bytes.{planeOf, number, encode, withSite, bytesOf}
 use Rattle.pauli_word.specs.Text.{letter, lettersAlone, readText}
 use Rattle.pauli_word.specs.Calls.{fromTextBytes}
 use Rattle.pauli_word.proofs.Words.{encode-length}
@@ -18,7 +18,7 @@ use Rattle.pauli_word.proofs.from_text.Statement.{statement}
 use Rattle.pauli_word.proofs.from_text.Tie as tie
 
 abbrev Inv-loop : tie.InvT-loop
-Inv-loop text n word₀ i₀ word i = (n ≡ length text) × (i ≤ n) × (n ≤ 256) × (lettersAlone (take i text) ≡ true) × (word ≡ encode planeLength (readText (take i text)))
+Inv-loop text n word₀ i₀ word i = (n ≡ length text) × (i ≤ n) × (n ≤ 256) × (lettersAlone (take i text) ≡ true) × (word ≡ bytesOf (readText (take i text)))
 
 abbrev μ-loop : tie.MeasureT-loop
 μ-loop text n word₀ i₀ word i = n - i
@@ -27,7 +27,7 @@ returns : tie.Need-returns Inv-loop μ-loop
 unfolding fromTextBytes
 returns c =
     let e = too-long (now (c .before .before .args .text)) (c .if1 .taken) in
-    (sym (ap (onAnswer length) e), sym (ap (orElse (encode planeLength) (replicate wordLength 0)) e))
+    (sym (ap (onAnswer length) e), sym (ap (orElse bytesOf (replicate wordLength 0)) e))
 
 loop-holds : tie.Need-loop-holds Inv-loop μ-loop
 unfolding lettersAlone encode planeOf number
@@ -54,7 +54,7 @@ returns-2 c =
     first-other (now (a .text)) (l .i) (omega arith) (omega arith) (l .inv .3)
     (other-letter (getD (now (a .text)) (l .i) 0) (sym (c .before .before .read .ensures) ∙ c .enum-told .given .1))
     in
-    (sym (ap (onAnswer length) e), sym (ap (orElse (encode planeLength) (replicate wordLength 0)) e))
+    (sym (ap (onAnswer length) e), sym (ap (orElse bytesOf (replicate wordLength 0)) e))
 
 slice-aggregate-put-site : tie.Need-slice-aggregate-put-site Inv-loop μ-loop
 slice-aggregate-put-site c =
@@ -90,7 +90,7 @@ loop-again c =
       alone-next (now (a .text)) (l .i) more (l .inv .3) (k .0),
       c .before .put-site .ensures
           ∙ ap (λ (w : List ℕ). withSite planeLength w (l .i) (b .0 .0) (b .0 .1 .0)) (l .inv .4)
-          ∙ ap₂ (withSite planeLength (encode planeLength (readText (take (l .i) (now (a .text))))) (l .i)) (k .1) (k .2)
+          ∙ ap₂ (withSite planeLength (bytesOf (readText (take (l .i) (now (a .text))))) (l .i)) (k .1) (k .2)
           ∙ text-next (now (a .text)) (l .i) more (l .inv .2),
     )
 
@@ -102,7 +102,7 @@ returns-3 c =
     let w = all-text (now (a .text)) (l .i) (c .loop-test .left) in
     let e = no-other (now (a .text)) (l .inv .2) (sym (ap lettersAlone w) ∙ l .inv .3) in (
       ap answer (sym (length-map (now (a .text)) letter)) ∙ sym (ap (onAnswer length) e),
-      l .inv .4 ∙ ap (λ (t : List ℕ). encode planeLength (readText t)) w ∙ sym (ap (orElse (encode planeLength) (replicate wordLength 0)) e),
+      l .inv .4 ∙ ap (λ (t : List ℕ). bytesOf (readText t)) w ∙ sym (ap (orElse bytesOf (replicate wordLength 0)) e),
     )
 
 pub from-text-spec : {M : Type 1} → statement M

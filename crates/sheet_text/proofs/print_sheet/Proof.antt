@@ -6,7 +6,7 @@ use native.Mathlib.Omega.{arith}
 use denote.Ref.{now}
 use lib.ListN.{length, length-append}
 use borrow.Author.Needs.{needs}
-use Rattle.pauli_word.specs.Outcome.{answer, verdict}
+use Rattle.outcome.specs.Outcome.{answer, verdict}
 use Rattle.text.specs.Text.{lineEnd, pieces, put}
 use Rattle.text.proofs.Puts.{put-length, put-put}
 use Rattle.group.specs.Value.{generatorsOf}

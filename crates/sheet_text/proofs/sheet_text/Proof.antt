@@ -6,7 +6,7 @@ use native.Mathlib.Omega.{arith}
 use denote.Ref.{now}
 use lib.ListN.{length, take, replicate, length-replicate}
 use borrow.Author.Needs.{needs}
-use Rattle.pauli_word.specs.Outcome.{answer, onAnswer}
+use Rattle.outcome.specs.Outcome.{answer, onAnswer}
 use Rattle.text.specs.Text.{put}
 use Rattle.text.proofs.Puts.{put-length}
 use Rattle.sheet_text.specs.Sheet.{sheet, maxTable, listAfter}

@@ -11,7 +11,7 @@ use borrow.Author.Needs.{needs}
 use Rattle.pauli_word.specs.Limits.{maxSites}
 use Rattle.permutation.specs.Limits.{maxGenerators}
 use Rattle.permutation.specs.Generators.{permCheck}
-use Rattle.generators.specs.Parts.{verdictOfChecked}
+use Rattle.generators.specs.Parts.{outcomeOfVerdict}
 use Rattle.generators.proofs.Verdicts.{refused-broken, refusal-apart, answered-fine, alone}
 use Rattle.generators.proofs.Reading.{Read, permAt, read-none, generator-fits, generator-room, generator-long, read-broken, read-next, read-all, targets-long}
 use Rattle.generators.proofs.list.fill_targets.Statement.{statement}
@@ -46,7 +46,7 @@ passes c =
     let l = c .before .before .before .before .before in
     let a = l .before .before .before .before .args in
     answered-fine (permCheck (a .sites) (l .before .loop .g) (permAt (now (a .list)) (l .before .loop .at)))
-    (sym (ap verdictOfChecked (c .enum-told .given .1)) ∙ c .before .before .fault .ensures)
+    (sym (ap outcomeOfVerdict (c .enum-told .given .1)) ∙ c .before .before .fault .ensures)
 
 loop-holds : tie.Need-loop-holds Inv-loop μ-loop
 loop-holds c = let s = c .before .before in (omega arith, read-none (now (s .args .list)) (s .args .sites) (now (s .args .targets)) (s .pre .1 .0 .0) (s .pre .1 .1))
@@ -97,7 +97,7 @@ returns c =
     let r = l .before .loop .inv .1 in
     let why = c .before .why .given .0 .0 in
     let check = permCheck (s .args .sites) (l .before .loop .g) (permAt (now (s .args .list)) (l .before .loop .at)) in
-    let e = sym (ap verdictOfChecked (c .before .why .given .1)) ∙ c .before .before .before .fault .ensures in (
+    let e = sym (ap outcomeOfVerdict (c .before .why .given .1)) ∙ c .before .before .before .fault .ensures in (
       e ∙ sym (ap alone (read-broken r (s .pre .1 .0 .1) (l .loop-test .taken) (refused-broken check why e))),
       λ k. absurd (refusal-apart why k),
     )

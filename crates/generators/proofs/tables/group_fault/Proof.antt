@@ -8,7 +8,7 @@ use denote.Ref.{now}
 use borrow.Author.Needs.{needs}
 use Rattle.permutation.specs.Generators.{fine, ordersCheck, pairsCheck, orderOverflow, orderLimit, rowsOf}
 use Rattle.permutation.specs.Parts.{pairCheck}
-use Rattle.generators.specs.Parts.{verdictOfChecked}
+use Rattle.generators.specs.Parts.{outcomeOfVerdict}
 use Rattle.generators.proofs.Verdicts.{refused-broken, answered-fine, first-refuses}
 use Rattle.generators.proofs.Faults.{group-pair, group-beyond, group-large, group-fine}
 use Rattle.generators.proofs.Rows.{row-inside, orders-positive}
@@ -23,7 +23,7 @@ ordered :
 ordered c =
     let a = c .before .before .before .before .before .args in
     answered-fine (ordersCheck 0 (rowsOf (a .generators) (a .sites) (now (a .targets))) (take (a .generators) (now (a .orders))))
-    (sym (ap verdictOfChecked (c .enum-told .given .1)) ∙ c .before .before .orders-fault .ensures)
+    (sym (ap outcomeOfVerdict (c .enum-told .given .1)) ∙ c .before .before .orders-fault .ensures)
 
 -- every two generators commute
 commuting :
@@ -42,7 +42,7 @@ returns : tie.Need-returns
 returns c =
     let a = c .before .before .before .before .before .before .args in
     let why = c .before .why .given .0 .0 in
-    let e = sym (ap verdictOfChecked (c .before .why .given .1)) ∙ c .before .before .before .orders-fault .ensures in
+    let e = sym (ap outcomeOfVerdict (c .before .why .given .1)) ∙ c .before .before .before .orders-fault .ensures in
     let perms = rowsOf (a .generators) (a .sites) (now (a .targets)) in
     let orders = take (a .generators) (now (a .orders)) in
     let check = ordersCheck 0 perms orders in

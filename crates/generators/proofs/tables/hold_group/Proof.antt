@@ -10,7 +10,7 @@ use Rattle.pauli_word.specs.Limits.{maxSites}
 use Rattle.pauli_word.proofs.Words.{rest-part}
 use Rattle.permutation.specs.Generators.{permsCheck, rowsOf}
 use Rattle.generators.specs.Tables.{zeros, answers, restsClear, holdGroup}
-use Rattle.generators.specs.Parts.{verdictOfChecked}
+use Rattle.generators.specs.Parts.{outcomeOfVerdict}
 use Rattle.generators.proofs.Verdicts.{refusal-no-answer}
 use Rattle.generators.proofs.Rows.{rows-permute}
 use Rattle.generators.proofs.Holding.{hold-many, hold-broken, hold-refused, hold-unused}
@@ -37,7 +37,7 @@ unused c =
     let e = c .before .before .before in
     let a = e .before .before .before .before .before .args in
     hold-unused (a .generators) (a .sites) (now (a .targets)) (now (a .orders)) (e .before .before .if1 .left) (permute e)
-    (sym (c .before .before .group-fault .ensures) ∙ ap verdictOfChecked (c .enum-told .given .1))
+    (sym (c .before .before .group-fault .ensures) ∙ ap outcomeOfVerdict (c .enum-told .given .1))
 
 clear :
     (c : tie.Else3)
@@ -79,7 +79,7 @@ returns-3 c =
     let told = c .enum-told2 .given in
     sym
     (hold-refused (a .generators) (a .sites) (now (a .targets)) (now (a .orders)) (e .before .before .if1 .left) (permute e)
-    (ap answers (sym (c .before .before .group-fault .ensures) ∙ ap verdictOfChecked (told .1)) ∙ refusal-no-answer (told .0 .0)))
+    (ap answers (sym (c .before .before .group-fault .ensures) ∙ ap outcomeOfVerdict (told .1)) ∙ refusal-no-answer (told .0 .0)))
 
 rests-clear-requires : tie.Need-rests-clear-requires
 rests-clear-requires c κs = search needs

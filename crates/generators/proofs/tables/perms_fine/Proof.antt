@@ -9,7 +9,7 @@ use types.Run.{OneOf}
 use denote.Enum.Declared.{tagOf}
 use denote.Ref.{now}
 use borrow.Author.Needs.{needs}
-use Rattle.pauli_word.specs.Outcome.{Check}
+use Rattle.outcome.specs.Outcome.{Check}
 use Rattle.permutation.specs.declared.inner.TargetFault.{TargetFault}
 use Rattle.permutation.specs.declared.inner.TargetFault.the-variants as TargetFault
 use Rattle.permutation.specs.Generators.{permCheck, rowAt}

@@ -1,8 +1,8 @@
 -- `Walk::next` meets its contract: the checks pass or refuse, and a walk that passes takes the step of `inner::step_of`.
 use mathlib.Core.Path.{sym, ap, _∙_}
-use Rattle.pauli_word.specs.Outcome.{answer, orElse}
+use Rattle.outcome.specs.Outcome.{answer, orElse}
 use Rattle.group.specs.Calls.{entryOf, nextOutcome, entryWord, afterEntry, noWord}
-use Rattle.group.specs.Parts.{verdictOfPass}
+use Rattle.group.specs.Parts.{outcomeOfVerdict}
 use Rattle.group.proofs.CallLaws.{call-refused, refusal-else}
 use Rattle.group.proofs.Walking.{walkChecks}
 use borrow.Author.Needs.{needs}
@@ -19,7 +19,7 @@ enum-told : tie.Need-enum-told
 enum-told c = search needs
 
 step-of-requires : tie.Need-step-of-requires
-step-of-requires c κs = sym (c .before .before .walk-checked .ensures) ∙ ap verdictOfPass (c .enum-told .given .1)
+step-of-requires c κs = sym (c .before .before .walk-checked .ensures) ∙ ap outcomeOfVerdict (c .enum-told .given .1)
 
 returns : tie.Need-returns
 unfolding nextOutcome
@@ -28,7 +28,7 @@ returns c =
     let why = c .before .why .given .0 .0 in
     let e =
     call-refused (walkChecks w) (answer (entryOf w)) why
-    (sym (c .before .before .before .walk-checked .ensures) ∙ ap verdictOfPass (c .before .why .given .1))
+    (sym (c .before .before .before .walk-checked .ensures) ∙ ap outcomeOfVerdict (c .before .why .given .1))
     in (
       sym e,
       (

@@ -1,7 +1,7 @@
 -- `inner::inverse_of` meets its contract: of an accepted group, whether the index is below the order decides (`invert-range`, `invert-answer`).
 use mathlib.Core.Path.{sym, ap, _∙_}
 use native.Mathlib.Omega.{arith}
-use Rattle.pauli_word.specs.Outcome.{answer}
+use Rattle.outcome.specs.Outcome.{answer}
 use Rattle.group.specs.Value.{generatorsOf}
 use Rattle.orbit.specs.Tables.{Tables}
 use Rattle.group.proofs.Accepted.{accepted-tables}

@@ -7,11 +7,11 @@ use native.Mathlib.Omega.{arith}
 use lib.ListN.{length, take, drop}
 use lib.Seq.{length-take-le}
 use denote.Ref.{now}
-use Rattle.pauli_word.specs.Outcome.{verdict, onAnswer, orElse}
+use Rattle.outcome.specs.Outcome.{verdict, onAnswer, orElse}
 use Rattle.permutation.specs.Limits.{maxGenerators}
 use Rattle.permutation.specs.Generators.{permsOf, permsCheck, groupChecks, rowsOf}
 use Rattle.generators.specs.Tables.{filled, placedAll}
-use Rattle.generators.specs.Parts.{verdictOfChecked}
+use Rattle.generators.specs.Parts.{outcomeOfVerdict}
 use Rattle.generators.proofs.Zeros.{blank, drop-blank}
 use Rattle.generators.proofs.Placed.{filled-length}
 use Rattle.generators.proofs.Rows.{rows-permute}
@@ -38,12 +38,12 @@ fine :
 fine c =
     let a = c .before .before .before .before .before .before .before .args in
     answered-fine (permsCheck (a .sites) 0 (permsOf (now (a .list))))
-    (sym (ap verdictOfChecked (c .enum-told .given .1)) ∙ c .before .before .before .fill-targets .ensures .0)
+    (sym (ap outcomeOfVerdict (c .enum-told .given .1)) ∙ c .before .before .before .fill-targets .ensures .0)
 
 placed :
     (c : tie.After-enum-told)
     → c .before .before .before .fill-targets .last .1 .1 .0 ≡ placedAll (permsOf (now (c .before .before .before .before .before .before .before .args .list)))
-placed c = c .before .before .before .fill-targets .ensures .1 (ap verdictOfChecked (c .enum-told .given .1))
+placed c = c .before .before .before .fill-targets .ensures .1 (ap outcomeOfVerdict (c .enum-told .given .1))
 
 rows :
     (c : tie.After-enum-told)
@@ -75,7 +75,7 @@ orders-long c =
 told :
     (c : tie.After-group-fault)
     → let a = c .before .before .before .before .before .before .before .before .before .before .before .before .before .args in
-    (verdictOfChecked (c .group-fault .result) ≡ verdict (tryChecks (a .sites) (now (a .list)) (now (a .orders))))
+    (outcomeOfVerdict (c .group-fault .result) ≡ verdict (tryChecks (a .sites) (now (a .list)) (now (a .orders))))
 told c =
     let s = c .before .before .before .before .before .before .before .before .before .before .before .before .before in
     let a = s .args in
@@ -106,7 +106,7 @@ returns c =
     let r = c .refused in
     refused-made (a .sites) (now (a .list)) (now (a .orders)) why
     (perms-refused (a .sites) (now (a .list)) (now (a .orders)) (s .pre .0) (s .pre .1) (some s) (same s) why
-    (sym (ap verdictOfChecked (c .before .before .why .given .1)) ∙ c .before .before .before .before .before .fill-targets .ensures .0))
+    (sym (ap outcomeOfVerdict (c .before .before .why .given .1)) ∙ c .before .before .before .before .before .fill-targets .ensures .0))
     (r .result) (r .ensures .0) (r .ensures .1)
 
 enum-told : tie.Need-enum-told
@@ -153,7 +153,7 @@ returns-2 c =
     let why = c .before .before .why2 .given .0 .0 in
     let r = c .refused2 in
     refused-made (a .sites) (now (a .list)) (now (a .orders)) why
-    (sym (sym (ap verdictOfChecked (c .before .before .why2 .given .1)) ∙ told g)) (r .result) (r .ensures .0) (r .ensures .1)
+    (sym (sym (ap outcomeOfVerdict (c .before .before .why2 .given .1)) ∙ told g)) (r .result) (r .ensures .0) (r .ensures .1)
 
 enum-told-2 : tie.Need-enum-told-2
 enum-told-2 c = search needs
@@ -164,7 +164,7 @@ returns-3 c =
     let s = g .before .before .before .before .before .before .before .before .before .before .before .before .before in
     let a = s .args in
     let e =
-    answered-made (a .sites) (now (a .list)) (now (a .orders)) (same s) (sym (sym (ap verdictOfChecked (c .enum-told2 .given .1)) ∙ told g))
+    answered-made (a .sites) (now (a .list)) (now (a .orders)) (same s) (sym (sym (ap outcomeOfVerdict (c .enum-told2 .given .1)) ∙ told g))
     in (
       sym (ap (onAnswer done) e),
       same-group refl (s .pre .2) (orders-placed (g .before .before .before .before)) (placed (g .before .before .before .before .before .before))

@@ -4,7 +4,7 @@ use mathlib.Core.Path.{sym, ap, _∙_}
 use native.Mathlib.Omega.{arith}
 use lib.ListN.{length}
 use denote.Ref.{now}
-use Rattle.pauli_word.specs.Outcome.{onAnswer, orElse}
+use Rattle.outcome.specs.Outcome.{onAnswer, orElse}
 use Rattle.action.specs.Index.{digits}
 use Rattle.group.specs.Value.{generatorsOf}
 use Rattle.group.specs.Calls.{done, wordOf, shiftOf, noWord}

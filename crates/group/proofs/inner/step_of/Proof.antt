@@ -9,7 +9,7 @@ use lib.ListN.{getD}
 use mir.Syntax.{w8}
 use mir.Val.{Fits}
 use Rattle.pauli_word.specs.Limits.{planeLength}
-use Rattle.pauli_word.specs.Outcome.{orElse}
+use Rattle.outcome.specs.Outcome.{orElse}
 use Rattle.pauli_word.specs.Bytes.{AcceptedWord}
 use Rattle.pauli_word.proofs.Planes.{bytes-of}
 use Rattle.orbit.specs.Tables.{Tables}
@@ -29,7 +29,7 @@ tables c = accepted-tables (c .args .walk .group) (walk-group (c .args .walk) (c
 byte : (c : tie.Start) (i : ℕ) → Fits w8 (getD (c .args .walk .word) i 0)
 byte c i = search needs
 
-word : (c : tie.Start) → AcceptedWord planeLength (c .args .walk .group .sites) (c .args .walk .word)
+word : (c : tie.Start) → AcceptedWord (c .args .walk .group .sites) (c .args .walk .word)
 word c = walk-word (c .args .walk) (c .pre) (search needs) (bytes-of (c .args .walk .word) (λ i. byte c i .fits))
 
 order-of-requires : tie.Need-order-of-requires

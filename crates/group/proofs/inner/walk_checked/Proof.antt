@@ -5,9 +5,9 @@ use mathlib.Core.Bool.{true}
 use native.Mathlib.Omega.{arith}
 use borrow.Author.Tests.{leb-true}
 use Rattle.pauli_word.specs.Limits.{maxSites}
-use Rattle.pauli_word.specs.Calls.{clearAbove, verdictOf}
+use Rattle.pauli_word.specs.Calls.{clearAbove, outcomeOfVerdict}
 use Rattle.group.specs.Value.{AcceptedGroup}
-use Rattle.group.specs.Parts.{verdictOfPass}
+use Rattle.group.specs.Parts.{outcomeOfVerdict}
 use Rattle.group.proofs.CallLaws.{value-accepted}
 use Rattle.group.proofs.Values.{word-clear, word-above}
 use Rattle.group.proofs.Walking.{walk-refused, other-word, past-order, walk-passes}
@@ -40,7 +40,7 @@ enum-told-3 c = search needs
 accepted : (c : tie.After-checked) → AcceptedGroup (c .before .before .before .before .before .before .before .args .walk .group)
 accepted c =
     value-accepted (c .before .before .before .before .before .before .before .args .walk .group)
-    (sym (c .before .before .before .before .value-checked .ensures) ∙ ap verdictOfPass (c .before .before .enum-told .given .1))
+    (sym (c .before .before .before .before .value-checked .ensures) ∙ ap outcomeOfVerdict (c .before .before .enum-told .given .1))
 
 few : (c : tie.After-checked) → c .before .before .before .before .before .before .before .args .walk .group .sites ≤ maxSites
 few c = leb-true (c .before .before .before .before .before .before .before .args .walk .group .sites) maxSites (accepted c .few)
@@ -54,7 +54,7 @@ clear c =
     let w = c .before .before .before .before .before .before .before .before .before .args .walk in
     let k = c .before .before in
     word-clear (w .group .sites) (w .word) (few k) (sym (slice-aggregate-checked (k .before)))
-    (sym (ap verdictOf (c .enum-told2 .given .1)) ∙ k .checked .ensures)
+    (sym (ap outcomeOfVerdict (c .enum-told2 .given .1)) ∙ k .checked .ensures)
 
 returns : tie.Need-returns
 returns c =
@@ -63,7 +63,7 @@ returns c =
     sym
     (other-word w (accepted k)
     (word-above (w .group .sites) (w .word) (few k) (sym (slice-aggregate-checked (k .before))) (c .enum-told3 .given .0 .0)
-    (sym (ap verdictOf (c .enum-told3 .given .1)) ∙ k .checked .ensures)))
+    (sym (ap outcomeOfVerdict (c .enum-told3 .given .1)) ∙ k .checked .ensures)))
 
 order-of-requires : tie.Need-order-of-requires
 order-of-requires c κs = accepted (c .before .before)
@@ -71,7 +71,7 @@ order-of-requires c κs = accepted (c .before .before)
 returns-2 : tie.Need-returns-2
 returns-2 c =
     let w = c .before .before .before .before .before .before .args .walk in
-    sym (walk-refused w (c .before .why .given .0 .0) (sym (c .before .before .before .value-checked .ensures) ∙ ap verdictOfPass (c .before .why .given .1)))
+    sym (walk-refused w (c .before .why .given .0 .0) (sym (c .before .before .before .value-checked .ensures) ∙ ap outcomeOfVerdict (c .before .why .given .1)))
 
 returns-3 : tie.Need-returns-3
 returns-3 c =

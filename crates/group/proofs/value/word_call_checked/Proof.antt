@@ -3,7 +3,7 @@ use mathlib.Core.Path.{_≡_, sym, ap, _∙_}
 use mathlib.Core.Bool.{true}
 use denote.Ref.{now}
 use borrow.Author.Tests.{not-true, not-false}
-use Rattle.pauli_word.specs.Calls.{verdictOf}
+use Rattle.pauli_word.specs.Calls.{outcomeOfVerdict}
 use Rattle.group.specs.Value.{isGroup}
 use Rattle.group.proofs.Values.{word-clear, word-above, group-many, word-many, group-other, other-length, other-sites, bit-above, word-passes}
 use borrow.Author.Needs.{needs}
@@ -65,7 +65,7 @@ returns-6 c =
     (word-passes (a .group) (a .n) (now (a .word)) (s .before .before .before .if1 .left) (s .before .before .if2 .left) (found s) (t .before .if4 .left)
     (t .if5 .left)
     (word-clear (a .n) (now (a .word)) (s .before .before .if2 .left) (t .before .if4 .left)
-    (sym (ap verdictOf (c .enum-told .given .1)) ∙ c .before .before .checked .ensures)))
+    (sym (ap outcomeOfVerdict (c .enum-told .given .1)) ∙ c .before .before .checked .ensures)))
 
 returns-7 : tie.Need-returns-7
 returns-7 c =
@@ -76,7 +76,7 @@ returns-7 c =
     (bit-above (a .group) (a .n) (now (a .word)) (s .before .before .before .if1 .left) (s .before .before .if2 .left) (found s) (t .before .if4 .left)
     (t .if5 .left)
     (word-above (a .n) (now (a .word)) (s .before .before .if2 .left) (t .before .if4 .left) (c .enum-told2 .given .0 .0)
-    (sym (ap verdictOf (c .enum-told2 .given .1)) ∙ c .before .before .checked .ensures)))
+    (sym (ap outcomeOfVerdict (c .enum-told2 .given .1)) ∙ c .before .before .checked .ensures)))
 
 pub word-call-checked-spec : {M : Type 1} → statement M
 word-call-checked-spec =

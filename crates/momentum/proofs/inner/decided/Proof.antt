@@ -5,7 +5,7 @@ use native.Mathlib.Omega.{arith}
 use lib.ListN.{length}
 use denote.Ref.{now}
 use borrow.Author.Needs.{needs}
-use Rattle.pauli_word.specs.Outcome.{onAnswer, orElse}
+use Rattle.outcome.specs.Outcome.{onAnswer, orElse}
 use Rattle.action.specs.Index.{digits}
 use Rattle.orbit.specs.Tables.{Tables}
 use Rattle.group.specs.Value.{generatorsOf}

@@ -3,7 +3,7 @@
 use mathlib.Core.Path.{sym, ap, _∙_}
 use denote.Ref.{now}
 use borrow.Author.Needs.{needs}
-use Rattle.pauli_word.specs.Outcome.{answer}
+use Rattle.outcome.specs.Outcome.{answer}
 use Rattle.orbit.specs.Tables.{Tables}
 use Rattle.group.specs.Value.{generatorsOf}
 use Rattle.group.proofs.Accepted.{accepted-tables}

@@ -47,7 +47,7 @@ returns : tie.Need-returns
 unfolding generatorsOf
 returns c =
     let a = c .before .before .before .before .before .before .before .before .before .before .args in
-    let w = decode planeLength (a .group .sites) (now (a .word)) in
+    let w = lettersIn (a .group .sites) (now (a .word)) in
     let found = sym (c .before .before .canonicalize-with-stabilizer .ensures .0) ∙ c .enum-told .given .1 in
     (dropped-placement (generatorsOf (a .group)) (now (a .modes)) w found, dropped-word (generatorsOf (a .group)) (now (a .modes)) w found)
 
@@ -66,7 +66,7 @@ div-t26 c =
     let t = c .before .before .before .before .before in
     let s = t .before .before .before .before .before .before .before .before .before .before in
     let a = s .args in
-    kept-positive (generatorsOf (a .group)) (now (a .modes)) (decode planeLength (a .group .sites) (now (a .word)))
+    kept-positive (generatorsOf (a .group)) (now (a .modes)) (lettersIn (a .group .sites) (now (a .word)))
     (sym (t .before .before .canonicalize-with-stabilizer .ensures .0) ∙ t .answer .given .1) (tables s .valid)
 
 returns-2 : tie.Need-returns-2
@@ -75,7 +75,7 @@ returns-2 c =
     let t = c .before .before .before .before .before in
     let a = t .before .before .before .before .before .before .before .before .before .before .args in
     let gs = generatorsOf (a .group) in
-    let w = decode planeLength (a .group .sites) (now (a .word)) in
+    let w = lettersIn (a .group .sites) (now (a .word)) in
     let traversed = t .before .before .canonicalize-with-stabilizer in
     let found = sym (traversed .ensures .0) ∙ t .answer .given .1 in
     (kept-placement gs (now (a .modes)) w found (c .before .invert .ensures) (t .before .before .before .before .before .before .before .before .order-of .ensures), traversed .ensures .1)

@@ -4,7 +4,7 @@ use mathlib.Core.Path.{sym, ap, _∙_}
 use lib.ListN.{length}
 use denote.Ref.{now}
 use borrow.Author.Needs.{needs}
-use Rattle.pauli_word.specs.Outcome.{onAnswer, orElse}
+use Rattle.outcome.specs.Outcome.{onAnswer, orElse}
 use Rattle.group.specs.Calls.{noWord}
 use Rattle.momentum.specs.Calls.{outcomeOfSector, sizeOf, rowWord, rowCounter}
 use Rattle.momentum.proofs.Outcomes.{sector-modes, sector-length}

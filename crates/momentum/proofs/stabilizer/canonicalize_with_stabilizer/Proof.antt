@@ -21,10 +21,10 @@ use Rattle.momentum.proofs.stabilizer.canonicalize_with_stabilizer.Tie 
 abbrev Inv-loop : tie.InvT-loop
 Inv-loop targets orders generators sites order modulus modes word here₀ best₀ index₀ fixing₀ i₀ here best index fixing i =
     let gs = generatorsIn generators sites targets orders in
-    let w = decode planeLength sites word in
+    let w = lettersIn sites word in
     (i ≤ order)
-    × (here ≡ encode planeLength (reach gs i w))
-    × (best ≡ encode planeLength (lead gs w i))
+    × (here ≡ bytesOf (reach gs i w))
+    × (best ≡ bytesOf (lead gs w i))
     × (index ≡ firstAt (lead gs w i) (entries gs w i))
     × Passed gs modes w i fixing
 
@@ -36,21 +36,21 @@ abbrev μ-loop : tie.MeasureT-loop
 here-accepted :
     (c : tie.At-loop Inv-loop μ-loop)
     → let s = c .before .before .before .before .before .before .before .before .before .before in
-    AcceptedWord planeLength (s .args .sites) (c .loop .here)
+    AcceptedWord (s .args .sites) (c .loop .here)
 here-accepted c =
     let s = c .before .before .before .before .before .before .before .before .before .before in
     let l = c .loop in
-    let w = decode planeLength (s .args .sites) (now (s .args .word)) in
+    let w = lettersIn (s .args .sites) (now (s .args .word)) in
     walk-accepted (s .pre .0) w (decode-length (s .pre .1 .1 .1 .1)) (l .i) (l .inv .1)
 
 best-accepted :
     (c : tie.At-loop Inv-loop μ-loop)
     → let s = c .before .before .before .before .before .before .before .before .before .before in
-    AcceptedWord planeLength (s .args .sites) (c .loop .best)
+    AcceptedWord (s .args .sites) (c .loop .best)
 best-accepted c =
     let s = c .before .before .before .before .before .before .before .before .before .before in
     let l = c .loop in
-    let w = decode planeLength (s .args .sites) (now (s .args .word)) in
+    let w = lettersIn (s .args .sites) (now (s .args .word)) in
     lead-accepted (s .pre .0) w (decode-length (s .pre .1 .1 .1 .1)) (l .i) (l .inv .1) (l .inv .2)
 
 slice-aggregate-copy : tie.Need-slice-aggregate-copy Inv-loop μ-loop
@@ -69,7 +69,7 @@ loop-holds : tie.Need-loop-holds Inv-loop μ-loop
 loop-holds c =
     let s = c .before .before .before .before .before .before .before .before .before in
     let gs = generatorsIn (s .args .generators) (s .args .sites) (now (s .args .targets)) (now (s .args .orders)) in
-    let w = decode planeLength (s .args .sites) (now (s .args .word)) in
+    let w = lettersIn (s .args .sites) (now (s .args .word)) in
     let ok = s .pre .1 .1 .1 .1 in (
       omega arith,
       c .before .before .before .before .copy .ensures ∙ walk-start ok gs,
@@ -98,7 +98,7 @@ returns c =
     let l = c .before .before .before .before .before .before .loop in
     let ks = now (s .args .modes) in
     let gs = generatorsIn (s .args .generators) (s .args .sites) (now (s .args .targets)) (now (s .args .orders)) in
-    let w = decode planeLength (s .args .sites) (now (s .args .word)) in
+    let w = lettersIn (s .args .sites) (now (s .args .word)) in
     let inside : l .i < orderOf gs = omega (arith, s .pre .1 .0, c .before .before .before .before .before .loop-test .taken) in
     let breaks = sym (c .before .before .before .tested .ensures) ∙ c .before .enum-told .given .1 in
     (c .dropped .ensures .0 ∙ traversal-broken gs ks w (l .i) inside breaks, c .dropped .ensures .1 ∙ word-broken gs ks w (l .i) inside breaks)
@@ -111,7 +111,7 @@ add-fixing c =
     let s = c .before .before .before .before .before .before .before .before .before .before .before .before .before .before .before in
     let l = c .before .before .before .before .before .loop in
     let gs = generatorsIn (s .args .generators) (s .args .sites) (now (s .args .targets)) (now (s .args .orders)) in
-    let w = decode planeLength (s .args .sites) (now (s .args .word)) in
+    let w = lettersIn (s .args .sites) (now (s .args .word)) in
     let few = passed-few gs (now (s .args .modes)) w (l .i) (l .inv .4) in
     omega (arith, s .pre .0 .small, s .pre .1 .0, c .before .before .before .before .loop-test .taken, few)
 
@@ -152,7 +152,7 @@ loop-again c =
     let ks = now (s .args .modes) in
     let t = s .pre .0 in
     let gs = generatorsIn (s .args .generators) (s .args .sites) (now (s .args .targets)) (now (s .args .orders)) in
-    let w = decode planeLength (s .args .sites) (now (s .args .word)) in
+    let w = lettersIn (s .args .sites) (now (s .args .word)) in
     let long = decode-length (s .pre .1 .1 .1 .1) in
     let lead = c .before .before .before .before .take-lead .ensures in
     let test = sym (c .before .before .before .before .before .before .before .before .tested .ensures) in
@@ -171,10 +171,10 @@ returns-2 c =
     let l = c .before .loop in
     let ks = now (s .args .modes) in
     let gs = generatorsIn (s .args .generators) (s .args .sites) (now (s .args .targets)) (now (s .args .orders)) in
-    let w = decode planeLength (s .args .sites) (now (s .args .word)) in
+    let w = lettersIn (s .args .sites) (now (s .args .word)) in
     let all : l .i ≡ orderOf gs = omega (arith, s .pre .1 .0, c .loop-test .left, l .inv .0) in (
       traversal-kept gs ks w (l .i) (l .inv .4) all (l .inv .3 ∙ place-end gs w (l .i) all),
-      l .inv .2 ∙ ap (encode planeLength) (lead-end gs w (l .i) all) ∙ word-kept gs ks w (l .i) (l .inv .4) all,
+      l .inv .2 ∙ ap bytesOf (lead-end gs w (l .i) all) ∙ word-kept gs ks w (l .i) (l .inv .4) all,
     )
 
 pub canonicalize-with-stabilizer-spec : {M : Type 1} → statement M

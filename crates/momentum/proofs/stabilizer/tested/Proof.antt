@@ -24,7 +24,7 @@ returns c =
     let s = c .before .before .before .before .before .before in
     let a = s .args in
     test-moves (generatorsIn (a .generators) (a .sites) (now (a .targets)) (now (a .orders))) (now (a .modes))
-    (decode planeLength (a .sites) (now (a .word))) (a .index)
+    (lettersIn (a .sites) (now (a .word))) (a .index)
     (bytes-moved (s .pre .0) (s .pre .1 .1 .1 .0) (a .index) (s .pre .1 .1 .1 .1) (c .before .compare .ensures)
     (λ e. ⊎-elim (λ z. omega arith) (λ z. omega arith) (rw e at (c .match .keys2))))
 
@@ -36,7 +36,7 @@ fixed :
     (c : tie.After-enum-told)
     → let a = c .before .before .before .before .before .before .before .args in
     let gs = generatorsIn (a .generators) (a .sites) (now (a .targets)) (now (a .orders)) in
-    (fixes gs (decode planeLength (a .sites) (now (a .word))) (a .index) ≡ true)
+    (fixes gs (lettersIn (a .sites) (now (a .word))) (a .index) ≡ true)
 fixed c =
     let s = c .before .before .before .before .before .before .before in
     bytes-fixed (s .pre .0) (s .pre .1 .1 .1 .0) (s .args .index) (s .pre .1 .1 .1 .1) (c .before .before .compare .ensures) (c .enum-told .given .1)
@@ -45,13 +45,13 @@ returns-2 : tie.Need-returns-2
 returns-2 c =
     let a = c .before .before .before .before .before .before .before .before .before .args in
     test-fixes (generatorsIn (a .generators) (a .sites) (now (a .targets)) (now (a .orders))) (now (a .modes))
-    (decode planeLength (a .sites) (now (a .word))) (a .index) (fixed (c .before .before)) (sym (c .before .trivial .ensures) ∙ c .if1 .taken)
+    (lettersIn (a .sites) (now (a .word))) (a .index) (fixed (c .before .before)) (sym (c .before .trivial .ensures) ∙ c .if1 .taken)
 
 returns-3 : tie.Need-returns-3
 returns-3 c =
     let a = c .before .before .before .before .before .before .before .before .before .args in
     test-breaks (generatorsIn (a .generators) (a .sites) (now (a .targets)) (now (a .orders))) (now (a .modes))
-    (decode planeLength (a .sites) (now (a .word))) (a .index) (fixed (c .before .before)) (sym (c .before .trivial .ensures) ∙ c .if1 .left)
+    (lettersIn (a .sites) (now (a .word))) (a .index) (fixed (c .before .before)) (sym (c .before .trivial .ensures) ∙ c .if1 .left)
 
 pub tested-spec : {M : Type 1} → statement M
 tested-spec =

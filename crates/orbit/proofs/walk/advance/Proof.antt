@@ -16,7 +16,7 @@ use Rattle.orbit.proofs.walk.advance.Statement.{statement}
 use Rattle.orbit.proofs.walk.advance.Tie as tie
 
 abbrev Inv-loop : tie.InvT-loop
-Inv-loop targets orders generators sites index word₀ rest₀ g₀ word rest g = (g ≤ generators) × AcceptedWord planeLength sites word × (stepped (generatorsIn generators sites targets orders) (digits (generatorsIn generators sites targets orders) index) (decode planeLength sites word₀) ≡ stepped (drop g (generatorsIn generators sites targets orders)) (digits (drop g (generatorsIn generators sites targets orders)) rest) (decode planeLength sites word))
+Inv-loop targets orders generators sites index word₀ rest₀ g₀ word rest g = (g ≤ generators) × AcceptedWord sites word × (stepped (generatorsIn generators sites targets orders) (digits (generatorsIn generators sites targets orders) index) (lettersIn sites word₀) ≡ stepped (drop g (generatorsIn generators sites targets orders)) (digits (drop g (generatorsIn generators sites targets orders)) rest) (lettersIn sites word))
 
 abbrev μ-loop : tie.MeasureT-loop
 μ-loop targets orders generators sites index word₀ rest₀ g₀ word rest g = generators - g
@@ -87,7 +87,7 @@ returns c =
     let l = c .before .before .before .before .before .before .before .before .before .before .before .loop in
     let more = c .before .before .before .before .before .before .before .before .before .before .loop-test .taken in
     let moved = c .before .before .before .before .copy .ensures ∙ c .before .before .before .before .before .before .before .apply-generator .ensures in
-    moved-last (s .pre .0) (l .g) (l .rest) more (l .inv .1) moved (c .if1 .taken) ∙ ap (encode planeLength) (sym (l .inv .2))
+    moved-last (s .pre .0) (l .g) (l .rest) more (l .inv .1) moved (c .if1 .taken) ∙ ap bytesOf (sym (l .inv .2))
 
 div-rest : tie.Need-div-rest Inv-loop μ-loop
 div-rest c = order-positive-at (c .before .before .before .before .before .before .before .before .before .before .before .before .before .before .before .pre .0) (c .before .before .before .before .before .before .before .before .before .before .before .loop .g) (c .before .before .before .before .before .before .before .before .before .before .loop-test .taken)
@@ -115,7 +115,7 @@ same-length-2 c = c .before .loop .inv .1 .long ∙ sym (c .before .before .befo
 returns-2 : tie.Need-returns-2 Inv-loop μ-loop
 returns-2 c =
     let l = c .before .loop in
-    moved-end (c .before .before .before .before .before .pre .0) (l .g) (l .rest) (c .loop-test .left) (l .inv .1) ∙ ap (encode planeLength) (sym (l .inv .2))
+    moved-end (c .before .before .before .before .before .pre .0) (l .g) (l .rest) (c .loop-test .left) (l .inv .1) ∙ ap bytesOf (sym (l .inv .2))
 
 pub advance-spec : {M : Type 1} → statement M
 advance-spec =

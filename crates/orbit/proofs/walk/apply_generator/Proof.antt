@@ -13,7 +13,7 @@ use Rattle.orbit.proofs.walk.apply_generator.Statement.{statement}
 use Rattle.orbit.proofs.walk.apply_generator.Tie as tie
 
 abbrev Inv-loop : tie.InvT-loop
-Inv-loop perm sites word out₀ q₀ out q = (q ≤ sites) × (out ≡ encode planeLength (placed sites perm (decode planeLength sites word) q))
+Inv-loop perm sites word out₀ q₀ out q = (q ≤ sites) × (out ≡ bytesOf (placed sites perm (lettersIn sites word) q))
 
 abbrev μ-loop : tie.MeasureT-loop
 μ-loop perm sites word out₀ q₀ out q = sites - q
@@ -38,14 +38,14 @@ slice-aggregate-put-site : tie.Need-slice-aggregate-put-site Inv-loop μ-loop
 slice-aggregate-put-site c =
     let s = c .before .before .before .before .before .before .before in
     let l = c .before .before .before .before .loop in
-    let w = placed (s .args .sites) (now (s .args .perm)) (decode planeLength (s .args .sites) (now (s .args .word))) (l .q) in
+    let w = placed (s .args .sites) (now (s .args .perm)) (lettersIn (s .args .sites) (now (s .args .word))) (l .q) in
     sym (ap length (l .inv .1) ∙ encode-length planeLength w)
 
 put-site-requires : tie.Need-put-site-requires Inv-loop μ-loop
 put-site-requires c κs =
     let s = c .before .before .before .before .before .before .before in
     let l = c .before .before .before .before .loop in
-    let w = placed (s .args .sites) (now (s .args .perm)) (decode planeLength (s .args .sites) (now (s .args .word))) (l .q) in
+    let w = placed (s .args .sites) (now (s .args .perm)) (lettersIn (s .args .sites) (now (s .args .word))) (l .q) in
     ap length (l .inv .1) ∙ encode-length planeLength w
 
 add-q : tie.Need-add-q Inv-loop μ-loop
@@ -68,7 +68,7 @@ returns : tie.Need-returns Inv-loop μ-loop
 returns c =
     let s = c .before .before .before .before in
     let l = c .before .loop in
-    l .inv .1 ∙ ap (encode planeLength) (placed-all (s .pre .0) (s .pre .1) (l .q) (c .loop-test .left))
+    l .inv .1 ∙ ap bytesOf (placed-all (s .pre .0) (s .pre .1) (l .q) (c .loop-test .left))
 
 pub apply-generator-spec : {M : Type 1} → statement M
 apply-generator-spec =

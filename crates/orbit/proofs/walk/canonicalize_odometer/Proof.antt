@@ -14,24 +14,24 @@ use Rattle.orbit.proofs.walk.canonicalize_odometer.Statement.{statement
 use Rattle.orbit.proofs.walk.canonicalize_odometer.Tie as tie
 
 abbrev Inv-loop : tie.InvT-loop
-Inv-loop targets orders generators sites order word here₀ best₀ index₀ i₀ here best index i = (i ≤ order) × (here ≡ encode planeLength (reach (generatorsIn generators sites targets orders) i (decode planeLength sites word))) × (best ≡ encode planeLength (lead (generatorsIn generators sites targets orders) (decode planeLength sites word) i)) × (index ≡ firstAt (lead (generatorsIn generators sites targets orders) (decode planeLength sites word) i) (entries (generatorsIn generators sites targets orders) (decode planeLength sites word) i))
+Inv-loop targets orders generators sites order word here₀ best₀ index₀ i₀ here best index i = (i ≤ order) × (here ≡ bytesOf (reach (generatorsIn generators sites targets orders) i (lettersIn sites word))) × (best ≡ bytesOf (lead (generatorsIn generators sites targets orders) (lettersIn sites word) i)) × (index ≡ firstAt (lead (generatorsIn generators sites targets orders) (lettersIn sites word) i) (entries (generatorsIn generators sites targets orders) (lettersIn sites word) i))
 
 abbrev μ-loop : tie.MeasureT-loop
 μ-loop targets orders generators sites order word here₀ best₀ index₀ i₀ here best index i = order - i
 
 -- the word at hand is accepted
-here-accepted : (c : tie.At-loop Inv-loop μ-loop) → AcceptedWord planeLength (c .before .before .before .before .before .before .before .before .before .before .args .sites) (c .loop .here)
+here-accepted : (c : tie.At-loop Inv-loop μ-loop) → AcceptedWord (c .before .before .before .before .before .before .before .before .before .before .args .sites) (c .loop .here)
 here-accepted c =
     let s = c .before .before .before .before .before .before .before .before .before .before in
     let l = c .loop in
-    let w = decode planeLength (s .args .sites) (now (s .args .word)) in
+    let w = lettersIn (s .args .sites) (now (s .args .word)) in
     walk-accepted (s .pre .0) w (decode-length (s .pre .1 .0)) (l .i) (l .inv .1)
 
-best-accepted : (c : tie.At-loop Inv-loop μ-loop) → AcceptedWord planeLength (c .before .before .before .before .before .before .before .before .before .before .args .sites) (c .loop .best)
+best-accepted : (c : tie.At-loop Inv-loop μ-loop) → AcceptedWord (c .before .before .before .before .before .before .before .before .before .before .args .sites) (c .loop .best)
 best-accepted c =
     let s = c .before .before .before .before .before .before .before .before .before .before in
     let l = c .loop in
-    let w = decode planeLength (s .args .sites) (now (s .args .word)) in
+    let w = lettersIn (s .args .sites) (now (s .args .word)) in
     lead-accepted (s .pre .0) w (decode-length (s .pre .1 .0)) (l .i) (l .inv .1) (l .inv .2)
 
 slice-aggregate-copy : tie.Need-slice-aggregate-copy Inv-loop μ-loop
@@ -50,7 +50,7 @@ loop-holds : tie.Need-loop-holds Inv-loop μ-loop
 loop-holds c =
     let s = c .before .before .before .before .before .before .before .before .before in
     let gs = generatorsIn (s .args .generators) (s .args .sites) (now (s .args .targets)) (now (s .args .orders)) in
-    let w = decode planeLength (s .args .sites) (now (s .args .word)) in (
+    let w = lettersIn (s .args .sites) (now (s .args .word)) in (
       omega arith,
       c .before .before .before .before .copy .ensures ∙ walk-start (s .pre .1 .0) gs,
       c .before .copy2 .ensures ∙ lead-start (s .pre .1 .0) gs,
@@ -85,7 +85,7 @@ loop-again c =
     let s = c .before .before .before .before .before .before .before .before .before .before .before .before .before .before .before .before .before .before in
     let l = c .before .before .before .before .before .before .before .before .loop in
     let t = s .pre .0 in
-    let w = decode planeLength (s .args .sites) (now (s .args .word)) in
+    let w = lettersIn (s .args .sites) (now (s .args .word)) in
     let long = decode-length (s .pre .1 .0) in
     let lead = c .before .before .before .before .take-lead .ensures in (
       omega (arith, c .before .before .before .before .before .before .before .loop-test .taken),
@@ -99,8 +99,8 @@ returns c =
     let s = c .before .before .before .before .before .before .before .before .before .before .before in
     let l = c .before .loop in
     let gs = generatorsIn (s .args .generators) (s .args .sites) (now (s .args .targets)) (now (s .args .orders)) in
-    let w = decode planeLength (s .args .sites) (now (s .args .word)) in
-    (l .inv .2 ∙ ap (encode planeLength) (lead-end gs w (l .i) (omega arith)), l .inv .3 ∙ place-end gs w (l .i) (omega arith))
+    let w = lettersIn (s .args .sites) (now (s .args .word)) in
+    (l .inv .2 ∙ ap bytesOf (lead-end gs w (l .i) (omega arith)), l .inv .3 ∙ place-end gs w (l .i) (omega arith))
 
 pub canonicalize-odometer-spec : {M : Type 1} → statement M
 canonicalize-odometer-spec =

@@ -14,17 +14,17 @@ use Rattle.orbit.proofs.walk.fill_orbit.Statement.{statement}
 use Rattle.orbit.proofs.walk.fill_orbit.Tie as tie
 
 abbrev Inv-loop : tie.InvT-loop
-Inv-loop targets orders generators sites order word list₀ here₀ i₀ list here i = (i ≤ order) × (here ≡ encode planeLength (reach (generatorsIn generators sites targets orders) i (decode planeLength sites word))) × (list ≡ filled (generatorsIn generators sites targets orders) (decode planeLength sites word) list₀ i)
+Inv-loop targets orders generators sites order word list₀ here₀ i₀ list here i = (i ≤ order) × (here ≡ bytesOf (reach (generatorsIn generators sites targets orders) i (lettersIn sites word))) × (list ≡ filled (generatorsIn generators sites targets orders) (lettersIn sites word) list₀ i)
 
 abbrev μ-loop : tie.MeasureT-loop
 μ-loop targets orders generators sites order word list₀ here₀ i₀ list here i = order - i
 
 -- the word at hand is accepted
-here-accepted : (c : tie.At-loop Inv-loop μ-loop) → AcceptedWord planeLength (c .before .before .before .before .before .before .before .before .args .sites) (c .loop .here)
+here-accepted : (c : tie.At-loop Inv-loop μ-loop) → AcceptedWord (c .before .before .before .before .before .before .before .before .args .sites) (c .loop .here)
 here-accepted c =
     let s = c .before .before .before .before .before .before .before .before in
     let l = c .loop in
-    let w = decode planeLength (s .args .sites) (now (s .args .word)) in
+    let w = lettersIn (s .args .sites) (now (s .args .word)) in
     walk-accepted (s .pre .0) w (decode-length (s .pre .1 .0)) (l .i) (l .inv .1)
 
 list-length : (c : tie.At-loop Inv-loop μ-loop) → length (c .loop .list) ≡ wordLength * c .before .before .before .before .before .before .before .before .args .order
@@ -32,7 +32,7 @@ list-length c =
     let s = c .before .before .before .before .before .before .before .before in
     let l = c .loop in
     let gs = generatorsIn (s .args .generators) (s .args .sites) (now (s .args .targets)) (now (s .args .orders)) in
-    let w = decode planeLength (s .args .sites) (now (s .args .word)) in
+    let w = lettersIn (s .args .sites) (now (s .args .word)) in
     ap length (l .inv .2) ∙ filled-length gs w (now (s .args .list)) (l .i) (s .args .order) (s .pre .1 .1 .1) (l .inv .0)
 
 slice-aggregate-copy : tie.Need-slice-aggregate-copy Inv-loop μ-loop
@@ -45,7 +45,7 @@ loop-holds : tie.Need-loop-holds Inv-loop μ-loop
 loop-holds c =
     let s = c .before .before .before .before .before .before .before in
     let gs = generatorsIn (s .args .generators) (s .args .sites) (now (s .args .targets)) (now (s .args .orders)) in
-    let w = decode planeLength (s .args .sites) (now (s .args .word)) in
+    let w = lettersIn (s .args .sites) (now (s .args .word)) in
     (omega arith, c .before .copy .ensures ∙ walk-start (s .pre .1 .0) gs, filled-start gs w (now (s .args .list)))
 
 mul-at : tie.Need-mul-at Inv-loop μ-loop
@@ -94,7 +94,7 @@ loop-again c =
     let s = c .before .before .before .before .before .before .before .before .before .before .before .before .before .before .before .before .before in
     let l = c .before .before .before .before .before .before .before .before .before .loop in
     let gs = generatorsIn (s .args .generators) (s .args .sites) (now (s .args .targets)) (now (s .args .orders)) in
-    let w = decode planeLength (s .args .sites) (now (s .args .word)) in
+    let w = lettersIn (s .args .sites) (now (s .args .word)) in
     let copied = c .before .before .before .before .before .copy2 in (
       omega (arith, c .before .before .before .before .before .before .before .before .loop-test .taken),
       walk-next (s .pre .0) w (decode-length (s .pre .1 .0)) (l .i) (l .inv .1) (c .before .advance .ensures),
@@ -109,7 +109,7 @@ returns c =
     let s = c .before .before .before .before .before .before .before .before .before in
     let l = c .before .loop in
     let gs = generatorsIn (s .args .generators) (s .args .sites) (now (s .args .targets)) (now (s .args .orders)) in
-    let w = decode planeLength (s .args .sites) (now (s .args .word)) in
+    let w = lettersIn (s .args .sites) (now (s .args .word)) in
     l .inv .2 ∙ filled-end gs w (now (s .args .list)) (l .i) (s .args .order) (s .pre .1 .1 .0) (s .pre .1 .1 .1) (c .loop-test .left) (l .inv .0)
 
 pub fill-orbit-spec : {M : Type 1} → statement M

@@ -7,6 +7,7 @@ use Rattle.pauli_word.proofs.Words.{site-stored}
 use borrow.Author.Needs.{needs}
 use Rattle.pauli_word.proofs.inner.put_site.Statement.{statement}
 use Rattle.pauli_word.proofs.inner.put_site.Tie as tie
+use Rattle.outcome.specs.Outcome.{given}
 
 slice-relend-prefix-or-bit : tie.Need-slice-relend-prefix-or-bit
 slice-relend-prefix-or-bit c = search needs

@@ -4,16 +4,16 @@ use mathlib.Core.Path.{_≡_, refl, _∙_, ap₂}
 use mathlib.Core.List.{List, _++_}
 use native.Mathlib.Omega.{arith}
 use lib.ListN.{take, set, replicate}
-use Rattle.pauli_word.specs.Limits.{maxSites, planeLength}
+use Rattle.pauli_word.specs.Limits.{maxSites}
 use Rattle.pauli_word.specs.Word.{Word}
-use Rattle.pauli_word.specs.Bytes.{decode}
 use Rattle.pauli_word.specs.Text.{spell}
 use Rattle.pauli_word.proofs.Sites.{spell-next, all-sites}
 use Rattle.pauli_word.proofs.inner.spelled.Statement.{statement}
 use Rattle.pauli_word.proofs.inner.spelled.Tie as tie
+use Rattle.pauli_word.specs.Bytes.{lettersIn}
 
 abbrev Inv-loop : tie.InvT-loop
-Inv-loop n word text₀ q₀ text q = (q ≤ n) × (text ≡ spell (take q (decode planeLength n word)) ++ replicate (maxSites - q) 0)
+Inv-loop n word text₀ q₀ text q = (q ≤ n) × (text ≡ spell (take q (lettersIn n word)) ++ replicate (maxSites - q) 0)
 
 abbrev μ-loop : tie.MeasureT-loop
 μ-loop n word text₀ q₀ text q = n - q

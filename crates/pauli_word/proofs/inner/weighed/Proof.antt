@@ -3,15 +3,14 @@ use Prim.Native.Nat.{_+_, _-_, _*_, _≤_}
 use mathlib.Core.Path.{_≡_, refl, _∙_, ap, ap₂}
 use native.Mathlib.Omega.{arith}
 use lib.ListN.{take}
-use Rattle.pauli_word.specs.Limits.{planeLength}
 use Rattle.pauli_word.specs.Word.{weight, letterOf}
-use Rattle.pauli_word.specs.Bytes.{decode}
 use Rattle.pauli_word.proofs.Sites.{weigh-next, letterWeight-small, all-sites}
 use Rattle.pauli_word.proofs.inner.weighed.Statement.{statement}
 use Rattle.pauli_word.proofs.inner.weighed.Tie as tie
+use Rattle.pauli_word.specs.Bytes.{lettersIn}
 
 abbrev Inv-loop : tie.InvT-loop
-Inv-loop n word sum₀ q₀ sum q = (q ≤ n) × (sum ≤ 2 * q) × (sum ≡ weight (take q (decode planeLength n word)))
+Inv-loop n word sum₀ q₀ sum q = (q ≤ n) × (sum ≤ 2 * q) × (sum ≡ weight (take q (lettersIn n word)))
 
 abbrev μ-loop : tie.MeasureT-loop
 μ-loop n word sum₀ q₀ sum q = n - q

@@ -8,6 +8,7 @@ use Rattle.pauli_word.specs.Bytes.{planeBits, clear, clearFrom}
 use Rattle.pauli_word.proofs.Planes.{bytes-of, clearFrom-past, clearFrom-set, clearFrom-rest, clear-set, clear-next, clear-end}
 use Rattle.pauli_word.proofs.plane.clear_from.Statement.{statement}
 use Rattle.pauli_word.proofs.plane.clear_from.Tie as tie
+use Rattle.outcome.specs.Outcome.{given}
 
 abbrev Inv-loop : tie.InvT-loop
 Inv-loop plane n first j₀ j = (j ≤ length plane) × (clearFrom n plane ≡ clear (planeBits (drop j plane)))

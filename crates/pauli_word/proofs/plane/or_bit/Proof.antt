@@ -1,13 +1,14 @@
 -- `plane::or_bit` meets its contract: a digit that is 0 is set by adding its power of 2, and in every other case nothing changes.
 use mathlib.Core.Bool.{false, _||_}
 use Prim.Native.Nat.{_/_}
-use lib.ListN.{set, getD}
+use lib.ListN.{getD}
 use denote.Ref.{now}
 use Rattle.pauli_word.specs.Bytes.{planeBits}
 use Rattle.pauli_word.proofs.Planes.{or-sets, or-set-already, or-nothing, or-past, or-fits}
 use borrow.Author.Needs.{needs}
 use Rattle.pauli_word.proofs.plane.or_bit.Statement.{statement}
 use Rattle.pauli_word.proofs.plane.or_bit.Tie as tie
+use Rattle.outcome.specs.Outcome.{given}
 
 slice-read-if3 : tie.Need-slice-read-if3
 slice-read-if3 c = search needs

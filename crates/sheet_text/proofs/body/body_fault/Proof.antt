@@ -7,7 +7,7 @@ use native.Mathlib.Omega.{arith}
 use denote.Ref.{now}
 use lib.ListN.{length, take, drop, length-drop}
 use lib.Seq.{drop-drop}
-use Rattle.pauli_word.specs.Outcome.{refused, answer, verdict}
+use Rattle.outcome.specs.Outcome.{refused, answer, verdict}
 use Rattle.pauli_word.proofs.Words.{rest-part}
 use Rattle.text.specs.Text.{lineEnd, before, pieces}
 use Rattle.text.proofs.Pieces.{before-short}

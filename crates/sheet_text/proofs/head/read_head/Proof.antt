@@ -9,7 +9,7 @@ use denote.Ref.{now}
 use lib.ListN.{length, take, drop, length-drop}
 use mir.Syntax.{w64}
 use mir.Val.{Fits}
-use Rattle.pauli_word.specs.Outcome.{verdict, answer}
+use Rattle.outcome.specs.Outcome.{verdict, answer}
 use Rattle.pauli_word.proofs.Words.{rest-part}
 use Rattle.text.specs.Text.{lineEnd, pieces, sameText}
 use Rattle.sheet_text.specs.Sheet.{shapeNames, wordNames, modesOf, lineShape, lineSites, shapeChecks, thirdChecks, secondChecks, lineChecks}

@@ -5,7 +5,7 @@ use mathlib.Core.List.{List}
 use native.Mathlib.Omega.{arith}
 use borrow.Author.Tests.{not-true, not-false}
 use denote.Ref.{now}
-use Rattle.pauli_word.specs.Outcome.{verdict}
+use Rattle.outcome.specs.Outcome.{verdict}
 use Rattle.text.proofs.Pieces.{FourParts}
 use Rattle.sheet_text.specs.Sheet.{letterChecks}
 use Rattle.sheet_text.proofs.Lines.{front-part, fields-four, fields-other, value-other, value-unfit, value-fits}

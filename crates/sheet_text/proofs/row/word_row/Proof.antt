@@ -69,10 +69,10 @@ module _ (c : tie.After-from-text) where
   abbrev s : tie.Start
   s = start c
 
-  accepted : AcceptedWord planeLength (sites s) (c .from-text .result .word)
+  accepted : AcceptedWord (sites s) (c .from-text .result .word)
   accepted = read-accepted (sites s) (text s) _ (s .pre .1 .1 .0 .0) (s .pre .1 .1 .0 .1) (few s) (c .from-text .ensures .1)
 
-  letters : decode planeLength (sites s) (c .from-text .result .word) ≡ readText (text s)
+  letters : lettersIn (sites s) (c .from-text .result .word) ≡ readText (text s)
   letters = read-word (sites s) (text s) _ (s .pre .1 .1 .0 .0) (s .pre .1 .1 .0 .1) (few s) (c .from-text .ensures .1)
 
   light : weight (readText (text s)) < 10000000
@@ -127,8 +127,8 @@ module _ (c : tie.After-answer) where
       kept-small (gs o) (now (o .args .modes)) (text o) (o .pre .1 .1 .0 .0) found valid (o .pre .1 .1 .0 .1) (few o) below
 
   kept :
-      AcceptedWord planeLength (sites o) (p .placement-of .result .word)
-      × (decode planeLength (sites o) (p .placement-of .result .word) ≡ least (gs o) (readText (text o)))
+      AcceptedWord (sites o) (p .placement-of .result .word)
+      × (lettersIn (sites o) (p .placement-of .result .word) ≡ least (gs o) (readText (text o)))
   kept =
       let e = p .placement-of .ensures .1 ∙ ap (placementWord (gs o) (now (o .args .modes))) (letters (reading (weighing (appending p)))) in
       kept-word (gs o) (now (o .args .modes)) (text o) (o .pre .1 .1 .0 .0) found (sound o .0) (o .pre .1 .1 .0 .1) (few o) e
@@ -206,7 +206,7 @@ returns-3 c =
     let x = appending (placing z) in
     let s = begin (placing z) in
     let bytes = placing z .placement-of .result .word in
-    let f = spell (decode planeLength (sites s) bytes) in
+    let f = spell (lettersIn (sites s) bytes) in
     let first = written x in
     let long = spelled-length (sites s) bytes (kept z .0) in
     let short = kept-short f (index z) (size z) (weighing x .weight2 .given .0 .0) (small z .0) (small z .1) (weight-below (weighing x)) in

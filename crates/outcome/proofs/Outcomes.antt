@@ -1,0 +1,75 @@
+-- What lists of checks come to, and the calls that they stand before.
+-- What carries it: a refusal is no answer, so that a pass breaks no rule, and a refusal is by a broken one.
+use Prim.Native.Nat.{ℕ}
+use mathlib.Core.Path.{_≡_, refl, sym, ap, _∙_}
+use mathlib.Core.Bool.{Bool, true, false, cond, true≢false}
+use mathlib.Core.List.{List, [], _∷_, _++_}
+use native.Mathlib.Omega.{arith}
+use Rattle.outcome.specs.declared.Refusal.{Refusal}
+use Rattle.outcome.specs.Outcome.{Outcome, refused, answer, refusalOf, Check, verdict, given, unless, onAnswer, done, itself, orElse}
+
+-- ---- a refusal is no answer
+
+pub refused-apart : {A : Type 0} (k : ℕ) (vs : List ℕ) (a : A) → refused k vs ≡ answer a → ⊥
+refused-apart k vs a e = let z : _≡_ {A = ℕ} 0 1 = cc in omega arith
+
+-- ---- one check, and those after it
+
+-- a pass breaks no rule
+pub verdict-fine : (c : Check) (cs : List Check) → verdict (c ∷ cs) ≡ answer tt → (c .broken ≡ false) × (verdict cs ≡ answer tt)
+verdict-fine c cs h = go (c .broken) refl h
+  where
+    go :
+        (b : Bool) → c .broken ≡ b → cond b (refused (c .number) (c .values)) (verdict cs) ≡ answer tt
+        → (c .broken ≡ false) × (verdict cs ≡ answer tt)
+    go true e k = absurd (refused-apart (c .number) (c .values) tt k)
+    go false e k = (e, k)
+
+-- what a check comes to alone
+abbrev pub alone : Check → Outcome (Unit {0})
+alone check = verdict (check ∷ [])
+
+module _ (check : Check) where
+  pub refused-broken : (why : Refusal) → refusalOf why ≡ alone check → check .broken ≡ true
+  refused-broken why e = go (check .broken) e
+    where
+      go : (b : Bool) → refusalOf why ≡ cond b (refused (check .number) (check .values)) (answer (tt {0})) → b ≡ true
+      go true k = refl
+      go false k = absurd (refused-apart _ _ tt k)
+
+  pub answered-fine : answer tt ≡ alone check → check .broken ≡ false
+  answered-fine e = verdict-fine check [] (sym e) .0
+
+  pub first-refuses : (cs : List Check) → check .broken ≡ true → verdict (check ∷ cs) ≡ alone check
+  first-refuses cs e = rw e
+
+-- further checks come after the first
+pub verdict-append : (cs ds : List Check) → verdict (cs ++ ds) ≡ given (verdict cs) (verdict ds)
+verdict-append [] ds = refl
+verdict-append (c ∷ cs) ds = go (c .broken) (verdict-append cs ds)
+  where
+    go :
+        (b : Bool) → verdict (cs ++ ds) ≡ given (verdict cs) (verdict ds)
+        → cond b (refused (c .number) (c .values)) (verdict (cs ++ ds)) ≡ given (cond b (refused (c .number) (c .values)) (verdict cs)) (verdict ds)
+    go true e = refl
+    go false e = e
+
+-- ---- a call after its checks
+
+module _ {A : Type 0} (cs : List Check) (o : Outcome A) where
+  pub call-refused : (why : Refusal) → verdict cs ≡ refusalOf why → unless cs o ≡ refusalOf why
+  call-refused why e = ap (λ (v : Outcome (Unit {0})). given v o) e
+
+  pub call-answers : verdict cs ≡ answer tt → unless cs o ≡ o
+  call-answers e = ap (λ (v : Outcome (Unit {0})). given v o) e
+
+pub front-refused : (cs ds : List Check) (why : Refusal) → verdict cs ≡ refusalOf why → verdict (cs ++ ds) ≡ refusalOf why
+front-refused cs ds why e = verdict-append cs ds ∙ call-refused cs (verdict ds) why e
+
+-- a call that answers has passed its checks
+pub unless-answer : {A : Type 0} (cs : List Check) (a b : A) → unless cs (answer a) ≡ answer b → (verdict cs ≡ answer tt) × (a ≡ b)
+unless-answer cs a b e = go (verdict cs) refl e
+  where
+    go : (v : Outcome (Unit {0})) → verdict cs ≡ v → given v (answer a) ≡ answer b → (verdict cs ≡ answer tt) × (a ≡ b)
+    go (refused k vs) p q = absurd (refused-apart k vs b q)
+    go (answer tt) p q = (p, cc)

@@ -1,0 +1,2 @@
+-- What the contracts of every crate say of an outcome.
+pub mod Outcome

@@ -1,0 +1,136 @@
+-- What a call comes to: its answer, or a refusal by the number of the first rule broken, with the values that the rule names.
+use Prim.Native.Nat.{ℕ}
+use mathlib.Core.Bool.{Bool, cond}
+use mathlib.Core.List.{List, [], _∷_}
+use Rattle.outcome.specs.declared.Refusal.{Refusal}
+use Rattle.outcome.specs.declared.Refusal.the-variants as Refusal
+use Rattle.outcome.specs.declared.Verdict.{Verdict}
+use Rattle.outcome.specs.declared.Verdict.the-variants as Verdict
+use Rattle.outcome.specs.declared.Number.{Number}
+use Rattle.outcome.specs.declared.Number.the-variants as Number
+
+pub data Outcome (A : Type 0) : Type 0 where
+  refused : ℕ → List ℕ → Outcome A
+  answer : A → Outcome A
+
+-- ---- refusals: the one place where a rule has its number
+
+-- the number of the rule that a refusal is by
+abbrev pub numberOf : Refusal → ℕ
+numberOf Refusal.TooManySites = 1
+numberOf Refusal.ListEndsInside = 2
+numberOf Refusal.TooManyGenerators = 3
+numberOf (Refusal.LengthMismatch perms orders) = 4
+numberOf (Refusal.PermutationLength i len) = 5
+numberOf (Refusal.TargetOutOfRange i target) = 6
+numberOf (Refusal.DuplicateTarget i target) = 7
+numberOf (Refusal.ZeroOrder i) = 8
+numberOf (Refusal.PermutationOrderOverflow i) = 9
+numberOf (Refusal.OrderMismatch i declared exact) = 10
+numberOf (Refusal.NonCommuting left right) = 11
+numberOf Refusal.GroupOrderOverflow = 12
+numberOf Refusal.GroupOrderLimit = 13
+numberOf Refusal.InvalidValue = 14
+numberOf Refusal.WordLength = 15
+numberOf Refusal.OtherSites = 16
+numberOf Refusal.BitAboveSites = 17
+numberOf Refusal.ModeCount = 18
+numberOf Refusal.IndexRange = 19
+numberOf Refusal.CounterLength = 20
+numberOf Refusal.ListLength = 21
+numberOf Refusal.ZeroSide = 26
+numberOf Refusal.SidesTooLarge = 27
+numberOf Refusal.TooManyLetters = 28
+numberOf (Refusal.NotALetter at) = 29
+numberOf Refusal.SheetLength = 30
+numberOf Refusal.LineForm = 31
+
+-- the values that it names
+abbrev pub valuesOf : Refusal → List ℕ
+valuesOf Refusal.TooManySites = []
+valuesOf Refusal.ListEndsInside = []
+valuesOf Refusal.TooManyGenerators = []
+valuesOf (Refusal.LengthMismatch perms orders) = perms ∷ orders ∷ []
+valuesOf (Refusal.PermutationLength i len) = i ∷ len ∷ []
+valuesOf (Refusal.TargetOutOfRange i target) = i ∷ target ∷ []
+valuesOf (Refusal.DuplicateTarget i target) = i ∷ target ∷ []
+valuesOf (Refusal.ZeroOrder i) = i ∷ []
+valuesOf (Refusal.PermutationOrderOverflow i) = i ∷ []
+valuesOf (Refusal.OrderMismatch i declared exact) = i ∷ declared ∷ exact ∷ []
+valuesOf (Refusal.NonCommuting left right) = left ∷ right ∷ []
+valuesOf Refusal.GroupOrderOverflow = []
+valuesOf Refusal.GroupOrderLimit = []
+valuesOf Refusal.InvalidValue = []
+valuesOf Refusal.WordLength = []
+valuesOf Refusal.OtherSites = []
+valuesOf Refusal.BitAboveSites = []
+valuesOf Refusal.ModeCount = []
+valuesOf Refusal.IndexRange = []
+valuesOf Refusal.CounterLength = []
+valuesOf Refusal.ListLength = []
+valuesOf Refusal.ZeroSide = []
+valuesOf Refusal.SidesTooLarge = []
+valuesOf Refusal.TooManyLetters = []
+valuesOf (Refusal.NotALetter at) = at ∷ []
+valuesOf Refusal.SheetLength = []
+valuesOf Refusal.LineForm = []
+
+abbrev pub refusalOf : {A : Type 0} → Refusal → Outcome A
+refusalOf why = refused (numberOf why) (valuesOf why)
+
+-- ---- the answers that calls share
+
+abbrev pub outcomeOfVerdict : Verdict → Outcome (Unit {0})
+outcomeOfVerdict Verdict.Accepted = answer tt
+outcomeOfVerdict (Verdict.Refused why) = refusalOf why
+
+abbrev pub outcomeOfNumber : Number → Outcome ℕ
+outcomeOfNumber (Number.Value k) = answer k
+outcomeOfNumber (Number.Refused why) = refusalOf why
+
+-- ---- checks
+
+-- a rule as a call meets it: its number, the values that a refusal by it carries, and whether this input breaks it
+pub record Check : Type 0 where
+  pub number : ℕ
+  pub values : List ℕ
+  pub broken : Bool
+
+-- the rule that a refusal is by
+abbrev pub rule : Refusal → Bool → Check
+rule why b = record { number = numberOf why; values = valuesOf why; broken = b }
+
+-- what checks come to, taken in order: the refusal by the first broken rule, or a pass
+abbrev pub verdict : List Check → Outcome (Unit {0})
+verdict [] = answer tt
+verdict (c ∷ cs) = cond (c .broken) (refused (c .number) (c .values)) (verdict cs)
+
+-- go on after a pass
+abbrev pub given : {A : Type 0} → Outcome (Unit {0}) → Outcome A → Outcome A
+given (refused k vs) o = refused k vs
+given (answer t) o = o
+
+-- a call: its checks in their order, then what it comes to if none is broken
+abbrev pub unless : {A : Type 0} → List Check → Outcome A → Outcome A
+unless cs o = given (verdict cs) o
+
+-- the outcome with its answer put through a function; a refusal stays
+abbrev pub onAnswer : {A B : Type 0} → (A → B) → Outcome A → Outcome B
+onAnswer f (refused k vs) = refused k vs
+onAnswer f (answer a) = answer (f a)
+
+-- that there is an answer, and the answer itself
+abbrev pub done : {A : Type 0} → A → Unit {0}
+done a = tt
+
+abbrev pub itself : {A : Type 0} → A → A
+itself a = a
+
+-- a value made of the answer, or what stands in its place beside a refusal
+abbrev pub orElse : {A B : Type 0} → (A → B) → B → Outcome A → B
+orElse f z (refused k vs) = z
+orElse f z (answer a) = f a
+
+-- whether an outcome is an answer
+abbrev pub answers : {A : Type 0} → Outcome A → Bool
+answers o = orElse (λ _. mathlib.Core.Bool.true) mathlib.Core.Bool.false o
