@@ -291,8 +291,7 @@ pub fn walk_checked(walk: Walk) -> Verdict
     match value::value_checked(group) {
         Verdict::Refused(why) => Verdict::Refused(why),
         Verdict::Accepted => {
-            let Verdict::Accepted = pauli_word::inner::checked(sites, &word)
-            else {
+            let Verdict::Accepted = pauli_word::inner::checked(sites, &word) else {
                 return Verdict::Refused(Refusal::InvalidValue);
             };
             if order_of(group) < walk.index {

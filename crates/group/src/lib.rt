@@ -149,8 +149,12 @@ pub fn chain_1d(n: usize) -> Made
     ensures group { λ r. ⌜ r .group ≡ orElse itself noGroup (chainOutcome n) ⌝ }
 {
     match generators::lattice::sites_of(n, 1, 1) {
-        Number::Refused(Refusal::ZeroSide) => inner::no_lattice(Verdict::Refused(Refusal::ZeroSide)),
-        Number::Refused(Refusal::SidesTooLarge) => inner::no_lattice(Verdict::Refused(Refusal::SidesTooLarge)),
+        Number::Refused(Refusal::ZeroSide) => inner::no_lattice(Verdict::Refused(
+            Refusal::ZeroSide,
+        )),
+        Number::Refused(Refusal::SidesTooLarge) => inner::no_lattice(Verdict::Refused(
+            Refusal::SidesTooLarge,
+        )),
         Number::Value(sites) => {
             let mut targets = [0u32; TARGET_PLACES];
             generators::lattice::fill_shift(&mut targets[..sites], 1, n);
@@ -165,8 +169,12 @@ pub fn ladder(l: usize, legs: usize) -> Made
     ensures group { λ r. ⌜ r .group ≡ orElse itself noGroup (ladderOutcome l legs) ⌝ }
 {
     match generators::lattice::sites_of(l, legs, 1) {
-        Number::Refused(Refusal::ZeroSide) => inner::no_lattice(Verdict::Refused(Refusal::ZeroSide)),
-        Number::Refused(Refusal::SidesTooLarge) => inner::no_lattice(Verdict::Refused(Refusal::SidesTooLarge)),
+        Number::Refused(Refusal::ZeroSide) => inner::no_lattice(Verdict::Refused(
+            Refusal::ZeroSide,
+        )),
+        Number::Refused(Refusal::SidesTooLarge) => inner::no_lattice(Verdict::Refused(
+            Refusal::SidesTooLarge,
+        )),
         Number::Value(sites) => {
             let mut targets = [0u32; TARGET_PLACES];
             generators::lattice::fill_shift(&mut targets[..sites], 1, l);
@@ -181,8 +189,12 @@ pub fn torus_2d(lx: usize, ly: usize) -> Made
     ensures group { λ r. ⌜ r .group ≡ orElse itself noGroup (torus2Outcome lx ly) ⌝ }
 {
     match generators::lattice::sites_of(lx, ly, 1) {
-        Number::Refused(Refusal::ZeroSide) => inner::no_lattice(Verdict::Refused(Refusal::ZeroSide)),
-        Number::Refused(Refusal::SidesTooLarge) => inner::no_lattice(Verdict::Refused(Refusal::SidesTooLarge)),
+        Number::Refused(Refusal::ZeroSide) => inner::no_lattice(Verdict::Refused(
+            Refusal::ZeroSide,
+        )),
+        Number::Refused(Refusal::SidesTooLarge) => inner::no_lattice(Verdict::Refused(
+            Refusal::SidesTooLarge,
+        )),
         Number::Value(sites) => {
             let mut targets = [0u32; TARGET_PLACES];
             generators::lattice::fill_shift(&mut targets[..sites], 1, lx);
@@ -199,8 +211,12 @@ pub fn torus_3d(lx: usize, ly: usize, lz: usize) -> Made
     ensures group { λ r. ⌜ r .group ≡ orElse itself noGroup (torus3Outcome lx ly lz) ⌝ }
 {
     match generators::lattice::sites_of(lx, ly, lz) {
-        Number::Refused(Refusal::ZeroSide) => inner::no_lattice(Verdict::Refused(Refusal::ZeroSide)),
-        Number::Refused(Refusal::SidesTooLarge) => inner::no_lattice(Verdict::Refused(Refusal::SidesTooLarge)),
+        Number::Refused(Refusal::ZeroSide) => inner::no_lattice(Verdict::Refused(
+            Refusal::ZeroSide,
+        )),
+        Number::Refused(Refusal::SidesTooLarge) => inner::no_lattice(Verdict::Refused(
+            Refusal::SidesTooLarge,
+        )),
         Number::Value(sites) => {
             let mut targets = [0u32; TARGET_PLACES];
             generators::lattice::fill_shift(&mut targets[..sites], 1, lx);

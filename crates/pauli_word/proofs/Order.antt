@@ -15,7 +15,7 @@ use lib.Seq.{take-at, drop-at, drop-cons}
 use Rattle.pauli_word.specs.declared.Ordering.{Ordering}
 use Rattle.pauli_word.specs.declared.Ordering.the-variants.{Less, Same, Greater}
 use Rattle.pauli_word.specs.Word.{Letter, I, X, Y, Z, Word, xBit, zBit, bits, sameLetter, same, lessBits, less}
-use Rattle.pauli_word.specs.Bytes.{odd, lowBits, number, planeBits, lettersOf, decode, clear, clearFrom, Accepted}
+use Rattle.pauli_word.specs.Bytes.{odd, lowBits, number, planeBits, lettersOf, decode, clear, clearFrom, Accepted, byteValues}
 use Rattle.pauli_word.specs.Calls.{orderOfBits, orderOfWords}
 use Rattle.pauli_word.proofs.Bits.{odd-cases, lowBits-length, number-lowBits}
 use Rattle.pauli_word.proofs.Planes.{planeBits-length, planeBits-append}
@@ -274,7 +274,7 @@ module _ (a b : List ℕ) (i : ℕ) (la : i < length a) (lb : i < length b) wher
       (lowBits-length 8 (getD a i 0) ∙ sym (lowBits-length 8 (getD b i 0)))
 
   -- bytes that differ decide
-  pub byte-apart : getD a i 0 < 256 → getD b i 0 < 256 → (getD a i 0 ≡ getD b i 0 → ⊥)
+  pub byte-apart : getD a i 0 < byteValues → getD b i 0 < byteValues → (getD a i 0 ≡ getD b i 0 → ⊥)
       → orderOfBits (planeBits (drop i a)) (planeBits (drop i b)) ≡ orderOfBits (lowBits 8 (getD a i 0)) (lowBits 8 (getD b i 0))
   byte-apart fa fb h = byte-first ∙ decided (orderOfBits (lowBits 8 (getD a i 0)) (lowBits 8 (getD b i 0))) refl
     where

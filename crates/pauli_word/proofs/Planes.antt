@@ -13,7 +13,7 @@ use lib.ListN.{length, getD, set, take, drop, length-append, length-take, drop-o
 use lib.Seq.{getD-append-add, set-append-left, set-out, set-getD, drop-append-add, drop-append-le, drop-cons, drop-nil, take-at, drop-at}
 use borrow.Author.Tests.{eq-eqb, ne-eqb}
 use lib.Pow.{pow-mono, pow-lt, shr-lt}
-use Rattle.pauli_word.specs.Bytes.{odd, lowBits, number, planeBits, planeOf, clear, clearFrom, Bytes}
+use Rattle.pauli_word.specs.Bytes.{odd, lowBits, number, planeBits, planeOf, clear, clearFrom, Bytes, byteValues}
 use Rattle.pauli_word.proofs.Bits.{pad, odd-cases, lowBits-length, number-lowBits, lowBits-number, number-below, lowBits-at, lowBits-set, set-fits, lowBits-drop, lowBits-clear}
 
 pub position : (q : ℕ) → 8 * (q / 8) + q % 8 ≡ q
@@ -89,8 +89,8 @@ planeBits-set p q e l = set-byte p (q / 8) (q % 8) (digit q) e l ∙ ap (λ (i :
 -- ---- what `or_bit` does, case by case, to the byte x of bit q
 
 -- a power of 2 below 256, as it is shifted in a byte
-shifted-one : (q : ℕ) → 1 * 2 ^ (q % 8) % 256 ≡ 2 ^ (q % 8)
-shifted-one q = ap (λ (x : ℕ). x % 256) (one-mul (2 ^ (q % 8))) ∙ mod-eq-of-lt (pow-lt (digit q))
+shifted-one : (q : ℕ) → 1 * 2 ^ (q % 8) % byteValues ≡ 2 ^ (q % 8)
+shifted-one q = ap (λ (x : ℕ). x % byteValues) (one-mul (2 ^ (q % 8))) ∙ mod-eq-of-lt (pow-lt (digit q))
 
 -- a bit that was 0
 even-digit : (x : ℕ) → x % 2 ≡ 0 → odd x ≡ false
@@ -104,11 +104,11 @@ or-false true = refl
 or-false false = refl
 
 module _ (p : List ℕ) (q : ℕ) where
-  pub or-fits : getD p (q / 8) 0 < 256 → getD p (q / 8) 0 / 2 ^ (q % 8) % 2 ≡ 0 → getD p (q / 8) 0 + 1 * 2 ^ (q % 8) % 256 < 256
+  pub or-fits : getD p (q / 8) 0 < byteValues → getD p (q / 8) 0 / 2 ^ (q % 8) % 2 ≡ 0 → getD p (q / 8) 0 + 1 * 2 ^ (q % 8) % byteValues < byteValues
   or-fits h e = rw (shifted-one q) (set-fits 8 (getD p (q / 8) 0) (q % 8) (digit q) (even-digit (getD p (q / 8) 0 / 2 ^ (q % 8)) e) h)
 
   pub or-sets : (b : Bool) → q / 8 < length p → b ≡ true → getD p (q / 8) 0 / 2 ^ (q % 8) % 2 ≡ 0
-      → planeBits (set p (q / 8) (getD p (q / 8) 0 + 1 * 2 ^ (q % 8) % 256)) ≡ set (planeBits p) q (getD (planeBits p) q false || b)
+      → planeBits (set p (q / 8) (getD p (q / 8) 0 + 1 * 2 ^ (q % 8) % byteValues)) ≡ set (planeBits p) q (getD (planeBits p) q false || b)
   or-sets b l t e =
       let z = even-digit (getD p (q / 8) 0 / 2 ^ (q % 8)) e in
       ap (λ (y : ℕ). planeBits (set p (q / 8) (getD p (q / 8) 0 + y))) (shifted-one q)
@@ -150,7 +150,7 @@ clear-byte (x ∷ p) (suc j) r b h l =
     ∙ clear-byte p j r (b .1) h (le-of-suc-le-suc l)
 
 -- bytes, by their bound at each place
-pub bytes-of : (p : List ℕ) → ((i : ℕ) → getD p i 0 < 256) → Bytes p
+pub bytes-of : (p : List ℕ) → ((i : ℕ) → getD p i 0 < byteValues) → Bytes p
 bytes-of [] h = tt
 bytes-of (x ∷ p) h = (h 0, bytes-of p (λ i. h (suc i)))
 
@@ -175,17 +175,17 @@ module _ (p : List ℕ) (n : ℕ) where
       ∙ ap (λ (t : Bool). t && clear (planeBits (drop (suc (n / 8)) p))) (eq-eqb (getD p (n / 8) 0 / 2 ^ (n % 8)) 0 e)
       ∙ ap (λ (k : ℕ). clear (planeBits (drop k p))) (sym (add-one (n / 8)))
 
-clear-at : (p : List ℕ) (j : ℕ) → j < length p → getD p j 0 < 256 → clear (planeBits (drop j p)) ≡ (eqb (getD p j 0) 0 && clear (planeBits (drop (suc j) p)))
+clear-at : (p : List ℕ) (j : ℕ) → j < length p → getD p j 0 < byteValues → clear (planeBits (drop j p)) ≡ (eqb (getD p j 0) 0 && clear (planeBits (drop (suc j) p)))
 unfolding planeBits
 clear-at p j l h =
     ap (λ (r : List ℕ). clear (planeBits r)) (drop-cons p j 0 l)
     ∙ clear-append (lowBits 8 (getD p j 0)) (planeBits (drop (suc j) p))
     ∙ ap (λ (t : Bool). t && clear (planeBits (drop (suc j) p))) (lowBits-clear 8 (getD p j 0) h)
 
-pub clear-set : (p : List ℕ) (j : ℕ) → j < length p → getD p j 0 < 256 → (getD p j 0 ≡ 0 → ⊥) → clear (planeBits (drop j p)) ≡ false
+pub clear-set : (p : List ℕ) (j : ℕ) → j < length p → getD p j 0 < byteValues → (getD p j 0 ≡ 0 → ⊥) → clear (planeBits (drop j p)) ≡ false
 clear-set p j l h f = clear-at p j l h ∙ ap (λ (t : Bool). t && clear (planeBits (drop (suc j) p))) (ne-eqb (getD p j 0) 0 f)
 
-pub clear-next : (p : List ℕ) (j : ℕ) → j < length p → getD p j 0 < 256 → getD p j 0 ≡ 0 → clear (planeBits (drop j p)) ≡ clear (planeBits (drop (j + 1) p))
+pub clear-next : (p : List ℕ) (j : ℕ) → j < length p → getD p j 0 < byteValues → getD p j 0 ≡ 0 → clear (planeBits (drop j p)) ≡ clear (planeBits (drop (j + 1) p))
 clear-next p j l h e =
     clear-at p j l h
     ∙ ap (λ (t : Bool). t && clear (planeBits (drop (suc j) p))) (eq-eqb (getD p j 0) 0 e)

@@ -11,7 +11,8 @@ use lib.Seq.{length-take-le, take-all}
 use borrow.Author.Tests.{ne-eqb, eqb-true, lt-ltb, le-ltb}
 use Rattle.pauli_word.specs.declared.letter.LetterBits.the-variants.{Bits, Other}
 use Rattle.pauli_word.specs.Limits.{maxSites, planeLength}
-use Rattle.outcome.specs.Outcome.{refused, answer}
+use Rattle.outcome.specs.declared.Refusal.the-variants as Refusal
+use Rattle.outcome.specs.Outcome.{answer, refusalOf}
 use Rattle.pauli_word.specs.Word.{Letter, I, X, Y, Z, Word, xBit, zBit}
 use Rattle.pauli_word.specs.Bytes.{withSite, bytesOf}
 use Rattle.pauli_word.specs.Text.{glyph, isLetter, letter, lettersAlone, firstOther, readText, spell}
@@ -100,7 +101,7 @@ and-true true = refl
 and-true false = refl
 
 module _ (text : List ℕ) where
-  pub too-long : maxSites < length text → fromTextOutcome text ≡ refused 28 []
+  pub too-long : maxSites < length text → fromTextOutcome text ≡ refusalOf Refusal.TooManyLetters
   unfolding fromTextOutcome
   too-long h = simp (lt-ltb maxSites (length text) h)
 
@@ -108,7 +109,7 @@ module _ (text : List ℕ) where
   unfolding fromTextOutcome
   no-other h e = simp (le-ltb maxSites (length text) h, e)
 
-  some-other : length text ≤ maxSites → lettersAlone text ≡ false → fromTextOutcome text ≡ refused 29 (firstOther text ∷ [])
+  some-other : length text ≤ maxSites → lettersAlone text ≡ false → fromTextOutcome text ≡ refusalOf (Refusal.NotALetter (firstOther text))
   unfolding fromTextOutcome
   some-other h e = simp (le-ltb maxSites (length text) h, e)
 
@@ -124,10 +125,10 @@ other-at (b ∷ text) (suc i) h e f =
     (ap (λ (t : Bool). isLetter b && t) (r .0) ∙ ap (λ (t : Bool). t && false) (p .0), ap (λ (t : Bool). cond t (suc (firstOther text)) 0) (p .0) ∙ ap suc (r .1))
 
 pub first-other : (text : List ℕ) (i : ℕ) → length text ≤ maxSites → i < length text → lettersAlone (take i text) ≡ true → isLetter (getD text i 0) ≡ false
-    → fromTextOutcome text ≡ refused 29 (i ∷ [])
+    → fromTextOutcome text ≡ refusalOf (Refusal.NotALetter i)
 first-other text i l h e f =
     let r = other-at text i h e f in
-    some-other text l (r .0) ∙ ap (λ (k : ℕ). refused 29 (k ∷ [])) (r .1)
+    some-other text l (r .0) ∙ ap (λ (k : ℕ). refusalOf (Refusal.NotALetter k)) (r .1)
 
 -- one letter more
 module _ (text : List ℕ) (i : ℕ) (h : i < length text) where

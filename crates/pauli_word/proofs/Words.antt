@@ -9,7 +9,7 @@ use native.Mathlib.Omega.{arith}
 use lib.ListN.{length, getD, set, take, drop, replicate, length-append, length-drop, length-map, take-append-drop, drop-of-length-le, List·getD-map}
 use lib.Seq.{take-at, drop-at, length-take-le, getD-take, take-all}
 use Rattle.pauli_word.specs.Word.{Letter, I, X, Y, Z, Word, xBit, zBit, letterOf}
-use Rattle.pauli_word.specs.Bytes.{planeBits, planeOf, lettersOf, decode, encode, clear, clearFrom, Bytes, orAt, withSite, Accepted}
+use Rattle.pauli_word.specs.Bytes.{planeBits, planeOf, lettersOf, decode, encode, clear, clearFrom, Bytes, orAt, withSite, Accepted, byteValues}
 use Rattle.pauli_word.proofs.Bits.{pad}
 use Rattle.pauli_word.proofs.Planes.{planeBits-length, planeBits-planeOf, bytes-of, planeOf-length, planeOf-bytes, planeOf-planeBits, planeBits-injective}
 
@@ -262,7 +262,7 @@ module _ (m : ℕ) (bytes p r : List ℕ) (long : length bytes ≡ m + m) (lp : 
       ∙ ap (λ (b : List ℕ). p ++ b) (append-nil r)
 
   pub site-stored : (q : ℕ) (x z : Bool) → length r ≡ length part → planeBits p ≡ orAt (planeBits (take m bytes)) q x → planeBits r ≡ orAt (planeBits part) q z
-      → ((i : ℕ) → getD (take m whole ++ (r ++ drop (length whole - m) (drop m whole))) i 0 < 256)
+      → ((i : ℕ) → getD (take m whole ++ (r ++ drop (length whole - m) (drop m whole))) i 0 < byteValues)
       → take m whole ++ (r ++ drop (length whole - m) (drop m whole)) ≡ withSite m bytes q x z
   unfolding withSite
   site-stored q x z lr ep er b =

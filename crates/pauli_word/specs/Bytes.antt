@@ -71,10 +71,14 @@ clear (b ∷ bs) = not b && clear bs
 unfoldable pub clearFrom : ℕ → List ℕ → Bool
 clearFrom n plane = clear (drop n (planeBits plane))
 
+-- how many values a byte has
+abbrev pub byteValues : ℕ
+byteValues = 256
+
 -- every member is a byte
 abbrev pub Bytes : List ℕ → Type 0
 Bytes [] = Unit {0}
-Bytes (x ∷ xs) = (x < 256) × Bytes xs
+Bytes (x ∷ xs) = (x < byteValues) × Bytes xs
 
 -- an accepted word of n sites in planes of m bytes: two planes, and no bit at or above n
 pub record Accepted (m n : ℕ) (bytes : List ℕ) : Type 0 where

@@ -11,8 +11,8 @@ ghost use Rattle.pauli_word.specs.Bytes.{planeBits, withSite, AcceptedWo
 ghost use Rattle.pauli_word.specs.Text.{spell};
 ghost use Rattle.pauli_word.specs.Calls.{wordChecks, compareChecks, orderOfBits};
 use crate::MAX_SITES;
-use crate::PLANE_BYTES;
 use crate::Ordering;
+use crate::PLANE_BYTES;
 use crate::WORD_BYTES;
 use crate::letter;
 use crate::plane;

@@ -7,7 +7,7 @@ use native.Mathlib.Omega.{arith}
 use borrow.Author.Needs.{needs}
 use lib.ListN.{length, take, getD, replicate, length-map}
 use denote.Ref.{now}
-use Rattle.pauli_word.specs.Limits.{planeLength, wordLength}
+use Rattle.pauli_word.specs.Limits.{planeLength, wordLength, maxSites}
 use Rattle.outcome.specs.Outcome.{answer, onAnswer, orElse, given}
 use Rattle.pauli_word.specs.Bytes.{planeOf, number, encode, withSite, bytesOf}
 use Rattle.pauli_word.specs.Text.{letter, lettersAlone, readText}
@@ -18,7 +18,7 @@ use Rattle.pauli_word.proofs.from_text.Statement.{statement}
 use Rattle.pauli_word.proofs.from_text.Tie as tie
 
 abbrev Inv-loop : tie.InvT-loop
-Inv-loop text n word₀ i₀ word i = (n ≡ length text) × (i ≤ n) × (n ≤ 256) × (lettersAlone (take i text) ≡ true) × (word ≡ bytesOf (readText (take i text)))
+Inv-loop text n word₀ i₀ word i = (n ≡ length text) × (i ≤ n) × (n ≤ maxSites) × (lettersAlone (take i text) ≡ true) × (word ≡ bytesOf (readText (take i text)))
 
 abbrev μ-loop : tie.MeasureT-loop
 μ-loop text n word₀ i₀ word i = n - i

@@ -9,6 +9,7 @@ use Rattle.pauli_word.proofs.Checks.{too-many-sites, other-length, x-ab
 use borrow.Author.Needs.{needs}
 use Rattle.pauli_word.proofs.inner.checked.Statement.{statement}
 use Rattle.pauli_word.proofs.inner.checked.Tie as tie
+use Rattle.pauli_word.specs.Limits.{planeLength}
 
 returns : tie.Need-returns
 returns c = let a = c .before .before .args in sym (too-many-sites (a .n) (now (a .word)) (c .if1 .taken))
@@ -17,7 +18,7 @@ returns-2 : tie.Need-returns-2
 returns-2 c = let a = c .before .before .before .args in sym (other-length (a .n) (now (a .word)) (c .before .if1 .left) (c .if2 .taken))
 
 slice-aggregate-clear-from : tie.Need-slice-aggregate-clear-from
-slice-aggregate-clear-from c = sym (length-take-le 32 (now (c .before .before .before .before .args .word)) (omega arith))
+slice-aggregate-clear-from c = sym (length-take-le planeLength (now (c .before .before .before .before .args .word)) (omega arith))
 
 clear-from-requires : tie.Need-clear-from-requires
 clear-from-requires c κs = search needs
@@ -41,7 +42,7 @@ returns-3 c =
     (passes (a .n) (now (a .word)) (c .before .before .before .before .before .before .before .if1 .left)
     (c .before .before .before .before .before .before .if2 .left)
     (sym (c .before .before .before .before .clear-from .ensures) ∙ c .before .before .before .if3 .taken)
-    (sym (c .before .clear-from2 .ensures ∙ ap (clearFrom (a .n)) (rest-part 32 (now (a .word)))) ∙ c .if4 .taken))
+    (sym (c .before .clear-from2 .ensures ∙ ap (clearFrom (a .n)) (rest-part planeLength (now (a .word)))) ∙ c .if4 .taken))
 
 returns-4 : tie.Need-returns-4
 returns-4 c =
@@ -50,7 +51,7 @@ returns-4 c =
     (z-above (a .n) (now (a .word)) (c .before .before .before .before .before .before .before .if1 .left)
     (c .before .before .before .before .before .before .if2 .left)
     (sym (c .before .before .before .before .clear-from .ensures) ∙ c .before .before .before .if3 .taken)
-    (sym (c .before .clear-from2 .ensures ∙ ap (clearFrom (a .n)) (rest-part 32 (now (a .word)))) ∙ c .if4 .left))
+    (sym (c .before .clear-from2 .ensures ∙ ap (clearFrom (a .n)) (rest-part planeLength (now (a .word)))) ∙ c .if4 .left))
 
 returns-5 : tie.Need-returns-5
 returns-5 c =

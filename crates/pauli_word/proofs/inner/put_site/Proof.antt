@@ -8,12 +8,13 @@ use borrow.Author.Needs.{needs}
 use Rattle.pauli_word.proofs.inner.put_site.Statement.{statement}
 use Rattle.pauli_word.proofs.inner.put_site.Tie as tie
 use Rattle.outcome.specs.Outcome.{given}
+use Rattle.pauli_word.specs.Limits.{planeLength}
 
 slice-relend-prefix-or-bit : tie.Need-slice-relend-prefix-or-bit
 slice-relend-prefix-or-bit c = search needs
 
 slice-aggregate-or-bit : tie.Need-slice-aggregate-or-bit
-slice-aggregate-or-bit c = sym (length-take-le 32 (now (c .before .before .args .word)) (omega arith))
+slice-aggregate-or-bit c = sym (length-take-le planeLength (now (c .before .before .args .word)) (omega arith))
 
 or-bit-requires : tie.Need-or-bit-requires
 or-bit-requires c κs = search needs
@@ -39,8 +40,8 @@ returns c =
     let a = s .args in
     let one = c .before .before .before .before .before .before .or-bit in
     let two = c .before .before .or-bit2 in
-    site-stored 32 (now (a .word)) (one .last .0) (two .last .0) (s .pre)
-    (one .kept .0 ∙ length-take-le 32 (now (a .word)) (omega arith))
+    site-stored planeLength (now (a .word)) (one .last .0) (two .last .0) (s .pre)
+    (one .kept .0 ∙ length-take-le planeLength (now (a .word)) (omega arith))
     (a .q) (a .x) (a .z) (two .kept .0) (one .ensures) (two .ensures)
     (λ i. c .slice-known3 .given i .fits)
 

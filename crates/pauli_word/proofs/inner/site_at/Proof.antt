@@ -12,9 +12,10 @@ use Rattle.pauli_word.proofs.Words.{rest-part}
 use borrow.Author.Needs.{needs}
 use Rattle.pauli_word.proofs.inner.site_at.Statement.{statement}
 use Rattle.pauli_word.proofs.inner.site_at.Tie as tie
+use Rattle.pauli_word.specs.Limits.{planeLength}
 
 slice-aggregate-bit-at : tie.Need-slice-aggregate-bit-at
-slice-aggregate-bit-at c = sym (length-take-le 32 (now (c .before .before .args .word)) (omega arith))
+slice-aggregate-bit-at c = sym (length-take-le planeLength (now (c .before .before .args .word)) (omega arith))
 
 bit-at-requires : tie.Need-bit-at-requires
 bit-at-requires c κs = search needs
@@ -32,7 +33,7 @@ bit-at-requires-2 : tie.Need-bit-at-requires-2
 bit-at-requires-2 c κs = search needs
 
 returns : tie.Need-returns
-returns c = let a = c .before .before .before .before .before .args in (c .before .before .bit-at .ensures, c .bit-at2 .ensures ∙ ap (λ (l : List ℕ). getD (planeBits l) (a .q) false) (rest-part 32 (now (a .word))))
+returns c = let a = c .before .before .before .before .before .args in (c .before .before .bit-at .ensures, c .bit-at2 .ensures ∙ ap (λ (l : List ℕ). getD (planeBits l) (a .q) false) (rest-part planeLength (now (a .word))))
 
 pub site-at-spec : {M : Type 1} → statement M
 site-at-spec =
