@@ -6,7 +6,7 @@ use mathlib.Core.Bool.{Bool, true, false, cond, true≢false}
 use mathlib.Core.List.{List, [], _∷_, _++_}
 use native.Mathlib.Omega.{arith}
 use Rattle.outcome.specs.declared.Refusal.{Refusal}
-use Rattle.outcome.specs.Outcome.{Outcome, refused, answer, refusalOf, Check, verdict, given, unless, onAnswer, done, itself, orElse}
+use Rattle.outcome.specs.Outcome.{Outcome, refused, answer, refusalOf, Check, verdict, alone, given, unless, onAnswer, done, itself, orElse}
 
 -- ---- a refusal is no answer
 
@@ -24,10 +24,6 @@ verdict-fine c cs h = go (c .broken) refl h
         → (c .broken ≡ false) × (verdict cs ≡ answer tt)
     go true e k = absurd (refused-apart (c .number) (c .values) tt k)
     go false e k = (e, k)
-
--- what a check comes to alone
-abbrev pub alone : Check → Outcome (Unit {0})
-alone check = verdict (check ∷ [])
 
 module _ (check : Check) where
   pub refused-broken : (why : Refusal) → refusalOf why ≡ alone check → check .broken ≡ true

@@ -105,6 +105,10 @@ abbrev pub verdict : List Check → Outcome (Unit {0})
 verdict [] = answer tt
 verdict (c ∷ cs) = cond (c .broken) (refused (c .number) (c .values)) (verdict cs)
 
+-- what one check comes to alone
+abbrev pub alone : Check → Outcome (Unit {0})
+alone check = verdict (check ∷ [])
+
 -- go on after a pass
 abbrev pub given : {A : Type 0} → Outcome (Unit {0}) → Outcome A → Outcome A
 given (refused k vs) o = refused k vs

@@ -16,15 +16,15 @@ pub enum Refusal {
     // 5: a generator, and its length, which is not the site count.
     PermutationLength(usize, usize),
     // 6: a generator, and its target that is not below the site count.
-    TargetOutOfRange(usize, u32),
+    TargetOutOfRange(usize, usize),
     // 7: a generator, and its target that came before.
-    DuplicateTarget(usize, u32),
+    DuplicateTarget(usize, usize),
     // 8: a generator of order 0.
     ZeroOrder(usize),
     // 9: a generator whose exact order exceeds 32 bits.
     PermutationOrderOverflow(usize),
     // 10: a generator, its declared and its exact order.
-    OrderMismatch(usize, u32, u32),
+    OrderMismatch(usize, usize, usize),
     // 11: the first two generators that do not commute.
     NonCommuting(usize, usize),
     // 12: the group order exceeds 64 bits.

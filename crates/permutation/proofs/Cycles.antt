@@ -17,7 +17,8 @@ use Rattle.action.specs.Permutation.{target, after, cycleLength, exactOrder, Pe
 use Rattle.action.proofs.Lists.{of-member-below, of-member-map}
 use Rattle.action.proofs.Arithmetic.{lcm-left, lcm-right, lcm-divides, lcm-positive, lcmAll-divides}
 use Rattle.action.proofs.Order.{after-add, after-inside, after-apart, comes-back, cycle-least, cycle-positive, cycle-returns, cycle-divides, cycle-order, order-positive}
-use Rattle.permutation.specs.declared.inner.ExactOrder.the-variants as ExactOrder
+use Rattle.outcome.specs.declared.Refusal.the-variants as Refusal
+use Rattle.outcome.specs.Outcome.{answer, refusalOf}
 use Rattle.permutation.specs.Limits.{maxDeclared}
 use Rattle.permutation.specs.Parts.{exactOutcome}
 
@@ -129,9 +130,9 @@ module _ {perm seen : List ℕ} {order q : ℕ} (w : Walked perm seen order q) w
       up : (p : ℕ) → cycleLength perm p ∣ order → cycleLength perm p ∣ all
       up p d = dvd-trans (cycleLength perm p) d (lcm-left order (cycleLength perm q))
 
-  pub walked-overflow : maxDeclared < order → exactOutcome perm ≡ ExactOrder.Overflow
+  pub walked-overflow : (i : ℕ) → maxDeclared < order → exactOutcome i perm ≡ refusalOf (Refusal.PermutationOrderOverflow i)
   unfolding exactOutcome
-  walked-overflow over = simp (lt-ltb maxDeclared (exactOrder perm) (le-trans over (le-of-dvd (order-positive perm) (w .divides))))
+  walked-overflow i over = simp (lt-ltb maxDeclared (exactOrder perm) (le-trans over (le-of-dvd (order-positive perm) (w .divides))))
 
   -- every site is passed: each cycle length divides the number, and it divides the exact order
   whole : length perm ≤ q → exactOrder perm ≡ order
@@ -143,6 +144,6 @@ module _ {perm seen : List ℕ} {order q : ℕ} (w : Walked perm seen order q) w
           let (p, k, e) = of-member-map (cycleLength perm) (below (length perm)) a m in
           rw e (w .passed p (omega (arith, of-member-below (length perm) p k)))
 
-  pub walked-all : length perm ≤ q → order ≤ maxDeclared → exactOutcome perm ≡ ExactOrder.Order order
+  pub walked-all : (i : ℕ) → length perm ≤ q → order ≤ maxDeclared → exactOutcome i perm ≡ answer order
   unfolding exactOutcome
-  walked-all h fits = rw (whole h, le-ltb maxDeclared order fits)
+  walked-all i h fits = rw (whole h, le-ltb maxDeclared order fits)

@@ -10,6 +10,7 @@ use lib.Dec.{eqb}
 use lib.ListN.{length, getD, drop, set, replicate, getD-replicate, drop-of-length-le}
 use lib.Seq.{drop-cons, getD-set-same, getD-set-other}
 use borrow.Author.Tests.{le-leb, lt-leb, eq-eqb, ne-eqb}
+use Rattle.outcome.specs.declared.Refusal.the-variants as Refusal
 use Rattle.permutation.specs.Generators.{among, targetsCheck, fine, broke}
 
 -- the check from target q on
@@ -19,13 +20,13 @@ module _ (n i : ℕ) (passed perm : List ℕ) (q : ℕ) where
   fault-none h = rw (drop-of-length-le perm h)
 
   module _ (more : q < length perm) where
-    pub fault-outside : n ≤ getD perm q 0 → targetsCheck n i passed (drop q perm) ≡ broke 6 (i ∷ getD perm q 0 ∷ [])
+    pub fault-outside : n ≤ getD perm q 0 → targetsCheck n i passed (drop q perm) ≡ broke (Refusal.TargetOutOfRange i (getD perm q 0))
     unfolding targetsCheck
     fault-outside h = rw (drop-cons perm q 0 more, le-leb n (getD perm q 0) h)
 
     pub fault-again :
         getD perm q 0 < n → among (getD perm q 0) passed ≡ true
-        → targetsCheck n i passed (drop q perm) ≡ broke 7 (i ∷ getD perm q 0 ∷ [])
+        → targetsCheck n i passed (drop q perm) ≡ broke (Refusal.DuplicateTarget i (getD perm q 0))
     unfolding targetsCheck
     fault-again h e = rw (drop-cons perm q 0 more, lt-leb n (getD perm q 0) h, e)
 

@@ -15,6 +15,7 @@ use Rattle.action.specs.Lists.{from, below}
 use Rattle.action.specs.Permutation.{target, Commute}
 use Rattle.action.proofs.Lists.{length-below, member-below, of-member-below, every-intro, every-elim}
 use Rattle.pauli_word.specs.Limits.{maxSites}
+use Rattle.outcome.specs.declared.Refusal.the-variants as Refusal
 use Rattle.outcome.specs.Outcome.{Check}
 use Rattle.permutation.specs.Generators.{fine, broke, orNext, commuteAt, withRight, pairsCheck, rowAt, rowsOf}
 
@@ -63,7 +64,7 @@ module _ (k n : ℕ) (targets : List ℕ) where
   unfolding withRight
   pair-none l r h = rw (rows-nil r h)
 
-  pub pair-apart : (l r : ℕ) → r < k → commuteAt n (rowAt n targets l) (rowAt n targets r) ≡ false → pairFrom l r ≡ broke 11 (l ∷ r ∷ [])
+  pub pair-apart : (l r : ℕ) → r < k → commuteAt n (rowAt n targets l) (rowAt n targets r) ≡ false → pairFrom l r ≡ broke (Refusal.NonCommuting l r)
   unfolding withRight
   pair-apart l r h e = rw (rows-cons r h, e)
 

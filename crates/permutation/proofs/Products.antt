@@ -8,7 +8,8 @@ use native.Mathlib.Omega.{arith}
 use lib.ListN.{length, getD, take}
 use lib.Seq.{take-nil, take-length}
 use borrow.Author.Tests.{lt-ltb, le-ltb}
-use Rattle.permutation.specs.declared.inner.Product.the-variants as Product
+use Rattle.outcome.specs.declared.Refusal.the-variants as Refusal
+use Rattle.outcome.specs.Outcome.{answer, refusalOf}
 use Rattle.permutation.specs.Limits.{maxWide}
 use Rattle.permutation.specs.Generators.{productOf}
 use Rattle.permutation.specs.Parts.{productOutcome}
@@ -40,14 +41,14 @@ product-grows (o ∷ orders) (suc g) (suc k) m l h =
 -- the product of the first orders is beyond what the next order may be multiplied with
 pub product-overflow :
     (orders : List ℕ) (k : ℕ) → k ≤ length orders → ((g : ℕ) → g < k → 0 < getD orders g 0)
-    → (g : ℕ) → g < k → maxWide / getD orders g 0 < productOf (take g orders) → productOutcome (take k orders) ≡ Product.Overflow
+    → (g : ℕ) → g < k → maxWide / getD orders g 0 < productOf (take g orders) → productOutcome (take k orders) ≡ refusalOf Refusal.GroupOrderOverflow
 unfolding productOutcome
 product-overflow orders k long positive g h over =
     let beyond = div-lt-iff-lt-mul (positive g h) .0 over in
     let next = product-next orders g (omega arith) in
     simp (lt-ltb maxWide (productOf (take k orders)) (omega (arith, product-grows orders (suc g) k h long positive)))
 
-pub product-fits : (orders : List ℕ) → productOf orders ≤ maxWide → productOutcome orders ≡ Product.Order (productOf orders)
+pub product-fits : (orders : List ℕ) → productOf orders ≤ maxWide → productOutcome orders ≡ answer (productOf orders)
 unfolding productOutcome
 product-fits orders h = simp (le-ltb maxWide (productOf orders) h)
 

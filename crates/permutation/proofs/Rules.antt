@@ -14,7 +14,10 @@ use Rattle.action.specs.Lists.{Member}
 use Rattle.action.specs.Permutation.{Generator, exactOrder, Permutes, Commute, Valid}
 use Rattle.action.specs.Index.{orderOf}
 use Rattle.action.proofs.Order.{order-positive}
-use Rattle.outcome.specs.Outcome.{refused, answer, Check, verdict}
+use Rattle.outcome.specs.declared.Refusal.{Refusal}
+use Rattle.outcome.specs.declared.Refusal.the-variants as Refusal
+use Rattle.outcome.proofs.Outcomes.{verdict-fine}
+use Rattle.outcome.specs.Outcome.{answer, Check, verdict}
 use Rattle.permutation.specs.Limits.{maxOrder, maxDeclared, maxWide}
 use Rattle.permutation.specs.Generators.{fine, broke, among, targetsCheck, permCheck, permsCheck, orNext, orderCheck, ordersCheck, commuteAt, withRight, pairsCheck, productOf, orderOverflow, orderLimit, groupChecks, declared}
 use Rattle.permutation.proofs.Pairs.{commuteAt-true, of-commuteAt}
@@ -31,11 +34,11 @@ orNext-fine a b h = go (a .broken) refl h
 -- ---- 6 and 7: the targets of one generator
 
 target-fine :
-    (outside again : Bool) (vs ws : List ℕ) (rest : Check) → cond outside (broke 6 vs) (cond again (broke 7 ws) rest) .broken ≡ false
+    (outside again : Bool) (a b : Refusal) (rest : Check) → cond outside (broke a) (cond again (broke b) rest) .broken ≡ false
     → (outside ≡ false) × (again ≡ false) × (rest .broken ≡ false)
-target-fine true again vs ws rest h = absurd (true≢false h)
-target-fine false true vs ws rest h = absurd (true≢false h)
-target-fine false false vs ws rest h = (refl, refl, h)
+target-fine true again a b rest h = absurd (true≢false h)
+target-fine false true a b rest h = absurd (true≢false h)
+target-fine false false a b rest h = (refl, refl, h)
 
 -- what is not among t and the numbers before it is neither t nor among those
 not-among : (x t : ℕ) (seen : List ℕ) → among x (t ∷ seen) ≡ false → (x ≡ t → ⊥) × (among x seen ≡ false)
@@ -52,7 +55,7 @@ module _ (n i : ℕ) where
       → (t < n) × (among t seen ≡ false) × (targetsCheck n i (t ∷ seen) ts .broken ≡ false)
   unfolding targetsCheck
   first-fine seen t ts h =
-      let (a, b, r) = target-fine (leb n t) (among t seen) (i ∷ t ∷ []) (i ∷ t ∷ []) (targetsCheck n i (t ∷ seen) ts) h in
+      let (a, b, r) = target-fine (leb n t) (among t seen) (Refusal.TargetOutOfRange i t) (Refusal.DuplicateTarget i t) (targetsCheck n i (t ∷ seen) ts) h in
       (leb-false n t a, b, r)
 
   targets-below :
@@ -116,7 +119,7 @@ pub perm-fine : (n i : ℕ) (perm : List ℕ) → permCheck n i perm .broken ≡
 unfolding permCheck
 perm-fine n i perm h = go (eqb (length perm) n) refl h
   where
-    go : (b : Bool) → eqb (length perm) n ≡ b → cond b (targetsCheck n i [] perm) (broke 5 (i ∷ length perm ∷ [])) .broken ≡ false → Permutes n perm
+    go : (b : Bool) → eqb (length perm) n ≡ b → cond b (targetsCheck n i [] perm) (broke (Refusal.PermutationLength i (length perm))) .broken ≡ false → Permutes n perm
     go true e k = targets-fine n i perm k (eqb-true (length perm) n e)
     go false e k = absurd (true≢false k)
 
@@ -146,7 +149,7 @@ unfolding orderCheck
 order-fine i perm order h = go (eqb order 0) (ltb maxDeclared (exactOrder perm)) (eqb order (exactOrder perm)) refl refl h
   where
     go : (none large same : Bool) → ltb maxDeclared (exactOrder perm) ≡ large → eqb order (exactOrder perm) ≡ same
-        → cond none (broke 8 (i ∷ [])) (cond large (broke 9 (i ∷ [])) (cond same fine (broke 10 (i ∷ order ∷ exactOrder perm ∷ [])))) .broken ≡ false
+        → cond none (broke (Refusal.ZeroOrder i)) (cond large (broke (Refusal.PermutationOrderOverflow i)) (cond same fine (broke (Refusal.OrderMismatch i order (exactOrder perm))))) .broken ≡ false
         → Exact perm order
     go true large same a b k = absurd (true≢false k)
     go false true same a b k = absurd (true≢false k)
@@ -182,9 +185,9 @@ exact-orders i (p ∷ perms) (o ∷ orders) h =
 
 -- ---- 11: pairs
 
-pair-fine : (together : Bool) (vs : List ℕ) → cond together fine (broke 11 vs) .broken ≡ false → together ≡ true
-pair-fine true vs h = refl
-pair-fine false vs h = absurd (true≢false h)
+pair-fine : (together : Bool) (why : Refusal) → cond together fine (broke why) .broken ≡ false → together ≡ true
+pair-fine true why h = refl
+pair-fine false why h = absurd (true≢false h)
 
 right-fine :
     (n l r : ℕ) (perm : List ℕ) (perms : List (List ℕ)) → withRight n l r perm perms .broken ≡ false
@@ -192,10 +195,10 @@ right-fine :
 unfolding withRight
 right-fine n l r perm [] h g m = absurd m
 right-fine n l r perm (p ∷ perms) h g (inl e) =
-    let first = orNext-fine (cond (commuteAt n perm p) fine (broke 11 (l ∷ r ∷ []))) (withRight n l (suc r) perm perms) h .0 in
-    rw e (of-commuteAt n perm p (pair-fine (commuteAt n perm p) (l ∷ r ∷ []) first))
+    let first = orNext-fine (cond (commuteAt n perm p) fine (broke (Refusal.NonCommuting l r))) (withRight n l (suc r) perm perms) h .0 in
+    rw e (of-commuteAt n perm p (pair-fine (commuteAt n perm p) (Refusal.NonCommuting l r) first))
 right-fine n l r perm (p ∷ perms) h g (inr m) =
-    let rest = orNext-fine (cond (commuteAt n perm p) fine (broke 11 (l ∷ r ∷ []))) (withRight n l (suc r) perm perms) h .1 in
+    let rest = orNext-fine (cond (commuteAt n perm p) fine (broke (Refusal.NonCommuting l r))) (withRight n l (suc r) perm perms) h .1 in
     right-fine n l (suc r) perm perms rest g m
 
 commute-right :
@@ -269,16 +272,6 @@ of-member-at (x ∷ xs) d a (inl e) = (0, zero-lt-suc (length xs), e)
 of-member-at (x ∷ xs) d a (inr m) = let (g, l, e) = of-member-at xs d a m in (suc g, suc-le-suc l, e)
 
 -- ---- all of them
-
--- an input that passes a list of checks breaks no first rule, and passes the others
-pub verdict-fine : (c : Check) (cs : List Check) → verdict (c ∷ cs) ≡ answer tt → (c .broken ≡ false) × (verdict cs ≡ answer tt)
-verdict-fine c cs h = go (c .broken) refl h
-  where
-    go :
-        (b : Bool) → c .broken ≡ b → cond b (refused (c .number) (c .values)) (verdict cs) ≡ answer tt
-        → (c .broken ≡ false) × (verdict cs ≡ answer tt)
-    go true e k = let z : _≡_ {A = ℕ} 0 1 = cc in absurd (omega arith)
-    go false e k = (e, k)
 
 pub valid-of-checks :
     (n : ℕ) (perms : List (List ℕ)) (orders : List ℕ) → verdict (permsCheck n 0 perms ∷ groupChecks n perms orders) ≡ answer tt

@@ -1,11 +1,13 @@
 -- A buyer's generators: the list that writes them, and the rules 2 to 13 that they are checked by.
-use Prim.Native.Nat.{ℕ, zero, suc, _+_, _*_}
+use Prim.Native.Nat.{ℕ, zero, suc, _*_}
 use mathlib.Core.Bool.{Bool, true, false, _||_, not, cond}
 use mathlib.Core.List.{List, [], _∷_, map}
 use lib.Dec.{ltb, leb, eqb}
 use lib.ListN.{length, take, drop}
 use Rattle.pauli_word.specs.Limits.{maxSites}
-use Rattle.outcome.specs.Outcome.{Check}
+use Rattle.outcome.specs.declared.Refusal.{Refusal}
+use Rattle.outcome.specs.declared.Refusal.the-variants as Refusal
+use Rattle.outcome.specs.Outcome.{Check, rule}
 use Rattle.action.specs.Lists.{below, every}
 use Rattle.action.specs.Permutation.{Generator, target, exactOrder}
 use Rattle.permutation.specs.Limits.{maxGenerators, maxOrder, maxDeclared, maxWide}
@@ -37,21 +39,21 @@ permsOf list = permsWithin (length list) list
 abbrev pub fine : Check
 fine = record { number = 0; values = []; broken = false }
 
--- a broken rule by its number, with its values
-abbrev pub broke : ℕ → List ℕ → Check
-broke k vs = record { number = k; values = vs; broken = true }
+-- the rule that a refusal is by, broken
+abbrev pub broke : Refusal → Check
+broke why = rule why true
 
 -- 2: the generator list ends inside a generator
 abbrev pub listEnd : List ℕ → Check
-listEnd list = record { number = 2; values = []; broken = endsInside list }
+listEnd list = rule Refusal.ListEndsInside (endsInside list)
 
 -- 3: more than 4 generators
 abbrev pub generatorCount : ℕ → Check
-generatorCount k = record { number = 3; values = []; broken = ltb maxGenerators k }
+generatorCount k = rule Refusal.TooManyGenerators (ltb maxGenerators k)
 
 -- 4: counts of permutations and orders differ (both counts)
 abbrev pub counts : ℕ → ℕ → Check
-counts k m = record { number = 4; values = k ∷ m ∷ []; broken = not (eqb k m) }
+counts k m = rule (Refusal.LengthMismatch k m) (not (eqb k m))
 
 -- ---- 5 to 7, one generator after the other
 
@@ -66,12 +68,12 @@ unfolding among
 targetsCheck n i seen [] = fine
 targetsCheck n i seen (t ∷ ts) =
     let r = targetsCheck n i (t ∷ seen) ts in
-    cond (leb n t) (broke 6 (i ∷ t ∷ [])) (cond (among t seen) (broke 7 (i ∷ t ∷ [])) r)
+    cond (leb n t) (broke (Refusal.TargetOutOfRange i t)) (cond (among t seen) (broke (Refusal.DuplicateTarget i t)) r)
 
 -- 5: the length is not the site count (generator, length); then its targets
 unfoldable pub permCheck : ℕ → ℕ → List ℕ → Check
 unfolding targetsCheck
-permCheck n i perm = let r = targetsCheck n i [] perm in cond (eqb (length perm) n) r (broke 5 (i ∷ length perm ∷ []))
+permCheck n i perm = let r = targetsCheck n i [] perm in cond (eqb (length perm) n) r (broke (Refusal.PermutationLength i (length perm)))
 
 -- the first of two rules that is broken
 abbrev pub orNext : Check → Check → Check
@@ -85,13 +87,17 @@ permsCheck n i (perm ∷ perms) = orNext (permCheck n i perm) (permsCheck n (suc
 
 -- ---- 8 to 10, one generator after the other
 
--- 8: the order is 0 (generator); 9: the exact order exceeds 4,294,967,295 (generator); 10: declared and exact order differ (generator, both)
+-- 9: the exact order exceeds 4,294,967,295 (generator)
+abbrev pub orderFits : ℕ → List ℕ → Check
+orderFits i perm = rule (Refusal.PermutationOrderOverflow i) (ltb maxDeclared (exactOrder perm))
+
+-- 8: the order is 0 (generator); then 9; 10: declared and exact order differ (generator, both)
 unfoldable pub orderCheck : ℕ → List ℕ → ℕ → Check
 unfolding exactOrder
 orderCheck i perm declared =
-    cond (eqb declared 0) (broke 8 (i ∷ []))
-    (cond (ltb maxDeclared (exactOrder perm)) (broke 9 (i ∷ []))
-    (cond (eqb declared (exactOrder perm)) fine (broke 10 (i ∷ declared ∷ exactOrder perm ∷ []))))
+    cond (eqb declared 0) (broke (Refusal.ZeroOrder i))
+    (cond (ltb maxDeclared (exactOrder perm)) (broke (Refusal.PermutationOrderOverflow i))
+    (cond (eqb declared (exactOrder perm)) fine (broke (Refusal.OrderMismatch i declared (exactOrder perm)))))
 
 unfoldable pub ordersCheck : ℕ → List (List ℕ) → List ℕ → Check
 unfolding orderCheck
@@ -110,7 +116,7 @@ commuteAt n f g = every (λ q. eqb (target f (target g q)) (target g (target f q
 unfoldable pub withRight : ℕ → ℕ → ℕ → List ℕ → List (List ℕ) → Check
 unfolding commuteAt
 withRight n l r perm [] = fine
-withRight n l r perm (p ∷ perms) = orNext (cond (commuteAt n perm p) fine (broke 11 (l ∷ r ∷ []))) (withRight n l (suc r) perm perms)
+withRight n l r perm (p ∷ perms) = orNext (cond (commuteAt n perm p) fine (broke (Refusal.NonCommuting l r))) (withRight n l (suc r) perm perms)
 
 -- the generators from l on, each with those after it
 unfoldable pub pairsCheck : ℕ → ℕ → List (List ℕ) → Check
@@ -127,11 +133,11 @@ productOf (o ∷ orders) = o * productOf orders
 
 -- 12: the group order exceeds 2^64 - 1
 abbrev pub orderOverflow : List ℕ → Check
-orderOverflow orders = record { number = 12; values = []; broken = ltb maxWide (productOf orders) }
+orderOverflow orders = rule Refusal.GroupOrderOverflow (ltb maxWide (productOf orders))
 
 -- 13: the group order exceeds 1,048,576
 abbrev pub orderLimit : List ℕ → Check
-orderLimit orders = record { number = 13; values = []; broken = ltb maxOrder (productOf orders) }
+orderLimit orders = rule Refusal.GroupOrderLimit (ltb maxOrder (productOf orders))
 
 -- 8 to 13, of permutations of n sites
 abbrev pub groupChecks : ℕ → List (List ℕ) → List ℕ → List Check

@@ -1,5 +1,5 @@
 -- The sizes of a group, each by one name.
-use Prim.Native.Nat.{ℕ, _*_, _-_, _^_}
+use Prim.Native.Nat.{ℕ, _*_}
 use Rattle.pauli_word.specs.Limits.{maxSites}
 
 -- the most generators

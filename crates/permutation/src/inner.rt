@@ -4,62 +4,40 @@ ghost use mathlib.Core.Path.{_≡_};
 ghost use mathlib.Core.Logic.{_⊎_};
 ghost use mathlib.Core.List.{[]};
 ghost use Prim.Native.Nat.{ℕ, _+_, _*_, _≤_, _<_};
-ghost use lib.ListN.{length, getD, take, drop};
+ghost use lib.ListN.{length, getD, take};
 ghost use Rattle.action.specs.Arithmetic.{gcd as gcdOf, lcm as lcmOf};
 ghost use Rattle.action.specs.Permutation.{Permutes, cycleLength};
+ghost use Rattle.outcome.specs.Outcome.{outcomeOfVerdict, outcomeOfNumber, alone};
 ghost use Rattle.pauli_word.specs.Limits.{maxSites};
 ghost use Rattle.permutation.specs.Limits.{maxGenerators, targetPlaces};
 ghost use Rattle.permutation.specs.Generators.{targetsCheck, pairsCheck, rowsOf};
-ghost use Rattle.permutation.specs.Parts.{faultCheck, exactOutcome, pairCheck, productOutcome};
+ghost use Rattle.permutation.specs.Parts.{exactOutcome, productOutcome};
 use crate::MAX_DECLARED;
 use crate::MAX_WIDE;
+use outcome::Number;
+use outcome::Refusal;
+use outcome::Verdict;
 use pauli_word::MAX_SITES;
 
-// The first target at fault, in list order.
-pub enum TargetFault {
-    Nothing,
-    OutOfRange(u32),
-    Duplicate(u32),
-}
-
-// An exact order, or that it exceeds 4,294,967,295.
-pub enum ExactOrder {
-    Order(u32),
-    Overflow,
-}
-
-// Two generators that do not commute.
-pub enum Pair {
-    Nothing,
-    Found(usize, usize),
-}
-
-// A product of orders, or that it exceeds 2^64 - 1.
-pub enum Product {
-    Order(usize),
-    Overflow,
-}
-
-// The first target that is not below the site count or came before.
-pub fn first_fault(perm: &[u32], sites: usize) -> TargetFault
+// The first target of a generator that is not below the site count, 6, or came before, 7.
+pub fn first_fault(generator: usize, perm: &[u32], sites: usize) -> Verdict
     requires { ⌜ sites ≤ maxSites ⌝ }
-    ensures { λ r. ⌜ ((i : ℕ) → faultCheck i r ≡ targetsCheck sites i [] (now (perm .entry))) ⌝ }
+    ensures { λ r. ⌜ outcomeOfVerdict r ≡ alone (targetsCheck sites generator [] (now (perm .entry))) ⌝ }
 {
     let mut seen = [0u8; MAX_SITES];
     let mut q = 0;
     while q < perm.len() {
-        let target = perm[q];
-        let t = target as usize;
+        let t = perm[q] as usize;
         if sites <= t {
-            return TargetFault::OutOfRange(target);
+            return Verdict::Refused(Refusal::TargetOutOfRange(generator, t));
         }
         if seen[t] == 1 {
-            return TargetFault::Duplicate(target);
+            return Verdict::Refused(Refusal::DuplicateTarget(generator, t));
         }
         seen[t] = 1;
         q += 1;
     }
-    TargetFault::Nothing
+    Verdict::Accepted
 }
 
 // The greatest common divisor.
@@ -84,7 +62,8 @@ pub fn lcm(a: u64, b: u64) -> u64
     a / gcd(a, b) * b
 }
 
-// The length of the cycle through start. The sites of the cycle are marked in seen, and no others.
+// The length of the cycle through start, whose sites are marked in seen: a site that is marked afterwards was marked before, or is on a cycle of
+// that length.
 pub fn mark_cycle(perm: &[u32], start: usize, seen: &mut [u8]) -> usize
     requires { ⌜ Permutes (length (now perm)) (now perm) ⌝ }
     requires { ⌜ start < length (now perm) ⌝ }
@@ -103,10 +82,10 @@ pub fn mark_cycle(perm: &[u32], start: usize, seen: &mut [u8]) -> usize
     steps
 }
 
-// The exact order of a permutation: each cycle is walked once.
-pub fn exact_order(perm: &[u32]) -> ExactOrder
+// The exact order of a generator's permutation, or 9: each cycle is walked once.
+pub fn exact_order(generator: usize, perm: &[u32]) -> Number
     requires { ⌜ (Permutes (length (now perm)) (now perm)) × (length (now perm) ≤ maxSites) ⌝ }
-    ensures { λ r. ⌜ r ≡ exactOutcome (now (perm .entry)) ⌝ }
+    ensures { λ r. ⌜ outcomeOfNumber r ≡ exactOutcome generator (now (perm .entry)) ⌝ }
 {
     let mut seen = [0u8; MAX_SITES];
     let mut order: u64 = 1;
@@ -116,28 +95,28 @@ pub fn exact_order(perm: &[u32]) -> ExactOrder
             let length = mark_cycle(perm, q, &mut seen);
             order = lcm(order, length as u64);
             if MAX_DECLARED < order {
-                return ExactOrder::Overflow;
+                return Number::Refused(Refusal::PermutationOrderOverflow(generator));
             }
         }
         q += 1;
     }
-    ExactOrder::Order(order as u32)
+    Number::Value(order as usize)
 }
 
-// The first two generators, left then right, that differ at some site when they are applied in either order.
-pub fn first_pair(targets: &[u32], generators: usize, sites: usize) -> Pair
+// 11: the first two generators, left then right, that differ at some site when they are applied in either order.
+pub fn first_pair(targets: &[u32], generators: usize, sites: usize) -> Verdict
     requires { ⌜ (length (now targets) ≡ targetPlaces) × (generators ≤ maxGenerators) × (sites ≤ maxSites) ⌝ }
     requires { ⌜ ((g q : ℕ) → g < generators → q < sites → getD (now targets) (maxSites * g + q) 0 < sites) ⌝ }
-    ensures { λ r. ⌜ pairCheck r ≡ pairsCheck sites 0 (rowsOf generators sites (now (targets .entry))) ⌝ }
+    ensures { λ r. ⌜ outcomeOfVerdict r ≡ alone (pairsCheck sites 0 (rowsOf generators sites (now (targets .entry)))) ⌝ }
 {
-    let mut found = Pair::Nothing;
+    let mut found = Verdict::Accepted;
     'pairs: for left in 0..generators {
         for right in left + 1..generators {
             for q in 0..sites {
                 let l = targets[MAX_SITES * left + q] as usize;
                 let r = targets[MAX_SITES * right + q] as usize;
                 if targets[MAX_SITES * left + r] != targets[MAX_SITES * right + l] {
-                    found = Pair::Found(left, right);
+                    found = Verdict::Refused(Refusal::NonCommuting(left, right));
                     break 'pairs;
                 }
             }
@@ -146,11 +125,11 @@ pub fn first_pair(targets: &[u32], generators: usize, sites: usize) -> Pair
     found
 }
 
-// The product of the first orders, none of which is 0.
+// The product of the first orders, none of which is 0, or 12.
 pub fn group_order(orders: &[u32], generators: usize) -> Number
     requires { ⌜ generators ≤ length (now orders) ⌝ }
     requires { ⌜ ((g : ℕ) → g < generators → 0 < getD (now orders) g 0) ⌝ }
-    ensures { λ r. ⌜ r ≡ productOutcome (take generators (now (orders .entry))) ⌝ }
+    ensures { λ r. ⌜ outcomeOfNumber r ≡ productOutcome (take generators (now (orders .entry))) ⌝ }
 {
     let mut order: u64 = 1;
     let mut g = 0;

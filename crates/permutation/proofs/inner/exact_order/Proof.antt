@@ -9,19 +9,20 @@ use denote.Ref.{now}
 use Rattle.action.specs.Permutation.{cycleLength}
 use Rattle.action.specs.Arithmetic.{lcm}
 use Rattle.action.proofs.Order.{cycle-positive}
+use Rattle.pauli_word.specs.Limits.{maxSites}
 use Rattle.permutation.specs.Limits.{maxDeclared}
 use Rattle.permutation.proofs.Cycles.{Walked, cycle-short, walked-none, walked-past, walked-next, walked-overflow, walked-all}
 use Rattle.permutation.proofs.inner.exact_order.Statement.{statement}
 use Rattle.permutation.proofs.inner.exact_order.Tie as tie
 
 abbrev Inv-loop : tie.InvT-loop
-Inv-loop perm seen₀ order₀ q₀ seen order q = (q ≤ length perm) × (length seen ≡ 256) × (order ≤ maxDeclared) × Walked perm seen order q
+Inv-loop generator perm seen₀ order₀ q₀ seen order q = (q ≤ length perm) × (length seen ≡ maxSites) × (order ≤ maxDeclared) × Walked perm seen order q
 
 abbrev μ-loop : tie.MeasureT-loop
-μ-loop perm seen₀ order₀ q₀ seen order q = length perm - q
+μ-loop generator perm seen₀ order₀ q₀ seen order q = length perm - q
 
 loop-holds : tie.Need-loop-holds Inv-loop μ-loop
-loop-holds c = (omega arith, refl, omega arith, walked-none (now (c .before .args .perm)) 256)
+loop-holds c = (omega arith, refl, omega arith, walked-none (now (c .before .args .perm)) maxSites)
 
 array-read-if1 : tie.Need-array-read-if1 Inv-loop μ-loop
 array-read-if1 c = omega arith
@@ -49,7 +50,7 @@ returns c =
     let l = c .before .before .before .before .before .before .before .loop in
     let m = c .before .before .before .mark-cycle in
     let w = walked-next (l .inv .3) (s .pre .0) (c .before .before .before .before .before .before .loop-test .taken) (m .last .1 .1 .0) (m .ensures .1) in
-    sym (walked-overflow w (omega (arith, c .before .lcm .ensures, ap (lcm (l .order)) (m .ensures .0))))
+    sym (walked-overflow w (s .args .generator) (omega (arith, c .before .lcm .ensures, ap (lcm (l .order)) (m .ensures .0))))
 
 add-q : tie.Need-add-q Inv-loop μ-loop
 add-q c = omega arith
@@ -74,11 +75,8 @@ loop-again c =
     (λ w. (omega arith, ap length (w .1) ∙ l .inv .1, omega (arith, w .2), rw (w .1, w .2) (walked-past (l .inv .3) (w .0 .left))))
     (c .if1 .came)
 
-cast-t15 : tie.Need-cast-t15 Inv-loop μ-loop
-cast-t15 c = omega arith
-
 returns-2 : tie.Need-returns-2 Inv-loop μ-loop
-returns-2 c = let l = c .before .loop in sym (walked-all (l .inv .3) (c .loop-test .left) (l .inv .2))
+returns-2 c = let l = c .before .loop in sym (walked-all (l .inv .3) (c .before .before .before .args .generator) (c .loop-test .left) (l .inv .2))
 
 pub exact-order-spec : {M : Type 1} → statement M
 exact-order-spec =
@@ -95,5 +93,4 @@ exact-order-spec =
     add-q
     loop-less
     loop-again
-    cast-t15
     returns-2)

@@ -1,57 +1,60 @@
 -- `inner::first_fault` meets its contract. The loop's invariant: the check of all targets is the check from target q on, given the targets that
 -- passed, and those are the marked ones.
 use Prim.Native.Nat.{ℕ, _-_, _≤_}
-use mathlib.Core.Path.{_≡_, refl, sym, _∙_}
+use mathlib.Core.Path.{_≡_, refl, sym, ap, _∙_}
 use mathlib.Core.List.{List, [], _∷_}
 use native.Mathlib.Numerals.{add-one}
 use native.Mathlib.Omega.{arith}
 use lib.ListN.{length, getD, drop, length-set}
 use denote.Ref.{now}
+use Rattle.outcome.specs.Outcome.{alone}
+use Rattle.pauli_word.specs.Limits.{maxSites}
 use Rattle.permutation.specs.Generators.{targetsCheck}
 use Rattle.permutation.proofs.Faults.{Marks, fault-none, fault-outside, fault-again, fault-next, marks-none, marks-next, marked-among, unmarked-among}
 use Rattle.permutation.proofs.inner.first_fault.Statement.{statement}
 use Rattle.permutation.proofs.inner.first_fault.Tie as tie
 
 abbrev Inv-loop : tie.InvT-loop
-Inv-loop perm sites seen₀ q₀ seen q =
-    (q ≤ length perm) × (length seen ≡ 256)
-    × ((passed : List ℕ) × ((i : ℕ) → targetsCheck sites i [] perm ≡ targetsCheck sites i passed (drop q perm)) × Marks sites seen passed)
+Inv-loop generator perm sites seen₀ q₀ seen q =
+    (q ≤ length perm) × (length seen ≡ maxSites)
+    × ((passed : List ℕ) × (targetsCheck sites generator [] perm ≡ targetsCheck sites generator passed (drop q perm)) × Marks sites seen passed)
 
 abbrev μ-loop : tie.MeasureT-loop
-μ-loop perm sites seen₀ q₀ seen q = length perm - q
+μ-loop generator perm sites seen₀ q₀ seen q = length perm - q
 
 loop-holds : tie.Need-loop-holds Inv-loop μ-loop
-loop-holds c = (omega arith, refl, ([], λ i. refl, marks-none (c .args .sites) 256 (c .pre)))
+loop-holds c = (omega arith, refl, ([], refl, marks-none (c .args .sites) maxSites (c .pre)))
 
-mul-target : tie.Need-mul-target Inv-loop μ-loop
-mul-target c = omega arith
+mul-t : tie.Need-mul-t Inv-loop μ-loop
+mul-t c = omega arith
 
-shared-slice-read-target : tie.Need-shared-slice-read-target Inv-loop μ-loop
-shared-slice-read-target c = omega arith
+shared-slice-read-t : tie.Need-shared-slice-read-t Inv-loop μ-loop
+shared-slice-read-t c = omega arith
 
 cast-t : tie.Need-cast-t Inv-loop μ-loop
 cast-t c = omega (arith, c .shared-slice-known .given (c .before .before .loop .q))
 
 returns : tie.Need-returns Inv-loop μ-loop
-returns c i =
+returns c =
     let a = c .before .before .before .before .args in
     let l = c .before .before .before .loop in
     let p = l .inv .2 in
-    sym (p .1 i ∙ fault-outside (a .sites) i (p .0) (now (a .perm)) (l .q) (c .before .before .loop-test .taken) (c .if1 .taken))
+    sym (ap alone (p .1 ∙ fault-outside (a .sites) (a .generator) (p .0) (now (a .perm)) (l .q) (c .before .before .loop-test .taken) (c .if1 .taken)))
 
 array-read-if2 : tie.Need-array-read-if2 Inv-loop μ-loop
 array-read-if2 c = omega arith
 
 returns-2 : tie.Need-returns-2 Inv-loop μ-loop
-returns-2 c i =
+returns-2 c =
     let a = c .before .before .before .before .before .args in
     let l = c .before .before .before .before .loop in
     let p = l .inv .2 in
     let below = c .before .if1 .left in
     sym
-    (p .1 i
-    ∙ fault-again (a .sites) i (p .0) (now (a .perm)) (l .q) (c .before .before .before .loop-test .taken) below
-    (marked-among (a .sites) (l .seen) (p .0) (p .2) (getD (now (a .perm)) (l .q) 0) below (c .if2 .taken)))
+    (ap alone
+    (p .1
+    ∙ fault-again (a .sites) (a .generator) (p .0) (now (a .perm)) (l .q) (c .before .before .before .loop-test .taken) below
+    (marked-among (a .sites) (l .seen) (p .0) (p .2) (getD (now (a .perm)) (l .q) 0) below (c .if2 .taken))))
 
 array-write-seen : tie.Need-array-write-seen Inv-loop μ-loop
 array-write-seen c = omega arith
@@ -74,17 +77,17 @@ loop-again c =
       simp length-set (l .inv .1),
       (
         t ∷ p .0,
-        λ i. rw add-one (p .1 i ∙ fault-next (a .sites) i (p .0) (now (a .perm)) (l .q) (c .before .before .before .loop-test .taken) below fresh),
+        rw add-one (p .1 ∙ fault-next (a .sites) (a .generator) (p .0) (now (a .perm)) (l .q) (c .before .before .before .loop-test .taken) below fresh),
         marks-next (a .sites) (l .seen) (p .0) t (omega arith) (p .2),
       ),
     )
 
 returns-3 : tie.Need-returns-3 Inv-loop μ-loop
-returns-3 c i =
+returns-3 c =
     let a = c .before .before .args in
     let l = c .before .loop in
     let p = l .inv .2 in
-    sym (p .1 i ∙ fault-none (a .sites) i (p .0) (now (a .perm)) (l .q) (c .loop-test .left))
+    sym (ap alone (p .1 ∙ fault-none (a .sites) (a .generator) (p .0) (now (a .perm)) (l .q) (c .loop-test .left)))
 
 pub first-fault-spec : {M : Type 1} → statement M
 first-fault-spec =
@@ -93,8 +96,8 @@ first-fault-spec =
     Inv-loop
     μ-loop
     loop-holds
-    mul-target
-    shared-slice-read-target
+    mul-t
+    shared-slice-read-t
     cast-t
     returns
     array-read-if2

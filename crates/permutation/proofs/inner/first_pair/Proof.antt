@@ -6,22 +6,23 @@ use native.Mathlib.Omega.{arith}
 use borrow.Author.Count.{below-more}
 use lib.ListN.{getD}
 use denote.Ref.{now}
-use Rattle.permutation.specs.declared.inner.Pair.the-variants as Pair
-use Rattle.permutation.specs.Parts.{pairCheck}
+use Rattle.outcome.specs.declared.Verdict.the-variants as Verdict
+use Rattle.outcome.specs.Outcome.{outcomeOfVerdict, alone}
+use Rattle.pauli_word.specs.Limits.{maxSites}
 use Rattle.permutation.proofs.Pairs.{pairsFrom, pairFrom, pairs-none, pairs-open, pair-none, pair-apart, pair-next, SameAt, rows-commute, rows-apart}
 use Rattle.permutation.proofs.inner.first_pair.Statement.{statement}
 use Rattle.permutation.proofs.inner.first_pair.Tie as tie
 
 abbrev Inv-loop2 : tie.InvT-loop2
 Inv-loop2 targets generators sites found₀ left right q₀ found q =
-    (found ≡ Pair.Nothing) × (q ≤ sites) × ((p : ℕ) → p < q → SameAt targets left right p)
+    (found ≡ Verdict.Accepted) × (q ≤ sites) × ((p : ℕ) → p < q → SameAt targets left right p)
 
 abbrev μ-loop2 : tie.MeasureT-loop2
 μ-loop2 targets generators sites found₀ left right q₀ found q = sites - q
 
 abbrev Inv-loop : tie.InvT-loop
 Inv-loop targets generators sites found₀ left right₀ found right =
-    (found ≡ Pair.Nothing) × (left < right) × (right ≤ generators)
+    (found ≡ Verdict.Accepted) × (left < right) × (right ≤ generators)
     × (pairsFrom generators sites targets left ≡ pairFrom generators sites targets left right)
 
 abbrev μ-loop : tie.MeasureT-loop
@@ -29,7 +30,7 @@ abbrev μ-loop : tie.MeasureT-loop
 
 abbrev Inv-pairs : tie.InvT-pairs
 Inv-pairs targets generators sites found₀ left₀ found left =
-    (found ≡ Pair.Nothing) × (left ≤ generators)
+    (found ≡ Verdict.Accepted) × (left ≤ generators)
     × (pairsFrom generators sites targets 0 ≡ pairsFrom generators sites targets left)
 
 abbrev μ-pairs : tie.MeasureT-pairs
@@ -54,8 +55,8 @@ loop2-holds c = (c .before .loop .inv .0, omega arith, λ p h. absurd (omega ari
 targets-below :
     (c : tie.In-loop2 Inv-loop2 μ-loop2 Inv-loop μ-loop Inv-pairs μ-pairs)
     → let s = c .before .before .before .before .before .before in
-    (getD (now (s .args .targets)) (256 * c .before .before .before .before .before .pairs .left + c .before .loop2 .q) 0 < s .args .sites)
-    × (getD (now (s .args .targets)) (256 * c .before .before .before .loop .right + c .before .loop2 .q) 0 < s .args .sites)
+    (getD (now (s .args .targets)) (maxSites * c .before .before .before .before .before .pairs .left + c .before .loop2 .q) 0 < s .args .sites)
+    × (getD (now (s .args .targets)) (maxSites * c .before .before .before .loop .right + c .before .loop2 .q) 0 < s .args .sites)
 targets-below c =
     let below = c .before .before .before .before .before .before .pre .1 in
     let q = c .before .loop2 .q in (
@@ -179,7 +180,7 @@ returns : tie.Need-returns Inv-loop2 μ-loop2 Inv-loop μ-loop Inv-pairs μ-pair
 returns c =
     let a = c .before .before .args in
     let p = c .before .pairs in
-    ap pairCheck (p .inv .0) ∙ sym (p .inv .2 ∙ pairs-none (a .generators) (a .sites) (now (a .targets)) (p .left) (c .pairs-test .left))
+    ap outcomeOfVerdict (p .inv .0) ∙ sym (ap alone (p .inv .2 ∙ pairs-none (a .generators) (a .sites) (now (a .targets)) (p .left) (c .pairs-test .left)))
 
 returns-2 : tie.Need-returns-2 Inv-loop2 μ-loop2 Inv-loop μ-loop Inv-pairs μ-pairs
 returns-2 c =
@@ -189,12 +190,13 @@ returns-2 c =
     let p = d .before .before .before .before .before .pairs in
     let l = d .before .before .before .loop in
     sym
+    (ap alone
     (p .inv .2
     ∙ l .inv .3
     ∙ pair-apart (a .generators) (a .sites) (now (a .targets)) (p .left) (l .right) (d .before .before .loop-test .taken)
     (rows-apart (a .sites) (now (a .targets)) (p .left) (l .right)
     (λ q. s .pre .1 (p .left) q (omega arith)) (λ q. s .pre .1 (l .right) q (omega arith))
-    (d .before .loop2 .q) (d .loop2-test .taken) (c .if1 .taken)))
+    (d .before .loop2 .q) (d .loop2-test .taken) (c .if1 .taken))))
 
 pub first-pair-spec : {M : Type 1} → statement M
 first-pair-spec =

@@ -6,7 +6,7 @@ use native.Mathlib.Numerals.{add-one}
 use native.Mathlib.Omega.{arith}
 use lib.ListN.{take, getD}
 use denote.Ref.{now}
-use Rattle.permutation.specs.declared.inner.Product.the-variants as Product
+use Rattle.outcome.specs.Outcome.{answer}
 use Rattle.permutation.specs.Limits.{maxWide}
 use Rattle.permutation.specs.Generators.{productOf}
 use Rattle.permutation.proofs.Products.{product-next, product-overflow, product-fits}
@@ -70,7 +70,7 @@ returns-2 c =
     let l = c .before .loop in
     let e : l .g ≡ s .args .generators = omega arith in
     let whole = l .inv .2 ∙ ap (λ (g : ℕ). productOf (take g (now (s .args .orders)))) e in
-    ap Product.Order whole ∙ sym (product-fits (take (s .args .generators) (now (s .args .orders))) (omega arith))
+    ap answer whole ∙ sym (product-fits (take (s .args .generators) (now (s .args .orders))) (omega arith))
 
 pub group-order-spec : {M : Type 1} → statement M
 group-order-spec =
