@@ -13,7 +13,7 @@ use lib.ListN.{length, getD, take, drop, length-append, length-take, length-drop
 use lib.Seq.{take-at, drop-at, take-take, take-add, drop-drop, drop-append-add, drop-append-seam, take-append-seam, length-take-le, ext-getD}
 use borrow.Author.Tests.{ltb-false, le-ltb, eqb-true, not-false}
 use Rattle.pauli_word.specs.Limits.{maxSites}
-use Rattle.outcome.specs.Outcome.{Outcome, refused, answer, Check, verdict}
+use Rattle.outcome.specs.Outcome.{Outcome, refused, answer, Check, verdict, answers}
 use Rattle.action.specs.Lists.{from, below, Member}
 use Rattle.action.specs.Permutation.{Valid}
 use Rattle.action.specs.Index.{orderOf}
@@ -21,8 +21,9 @@ use Rattle.action.proofs.Lists.{member-below, of-member-below, every-intro, eve
 use Rattle.permutation.specs.Limits.{maxGenerators, maxOrder, targetPlaces}
 use Rattle.permutation.specs.Generators.{endsInside, permsOf, generatorCount, counts, permsCheck, groupChecks, generatorChecks, declared, rowAt, rowsOf}
 use Rattle.permutation.proofs.Pairs.{rows-length, row-at}
-use Rattle.permutation.proofs.Rules.{verdict-fine, valid-of-checks, perms-fine, member-at}
-use Rattle.generators.specs.Tables.{filled, placed, placedAll, zeros, answers, restsClear, unusedClear, holdGroup}
+use Rattle.outcome.proofs.Outcomes.{verdict-fine}
+use Rattle.permutation.proofs.Rules.{valid-of-checks, perms-fine, member-at}
+use Rattle.generators.specs.Tables.{filled, placed, placedAll, zeros, restsClear, unusedClear, holdGroup}
 use Rattle.generators.proofs.Zeros.{blank, zeros-blank, blank-zeros}
 use Rattle.generators.proofs.Written.{ends-cons, perms-cons, ends-none, perms-none}
 use Rattle.generators.proofs.Placed.{filled-length}

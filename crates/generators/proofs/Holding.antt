@@ -7,10 +7,10 @@ use mathlib.Core.List.{List}
 use lib.ListN.{take, drop}
 use borrow.Author.Tests.{lt-ltb, le-ltb}
 use Rattle.pauli_word.specs.Limits.{maxSites}
-use Rattle.outcome.specs.Outcome.{answer, verdict}
+use Rattle.outcome.specs.Outcome.{answer, verdict, answers}
 use Rattle.permutation.specs.Limits.{maxGenerators}
 use Rattle.permutation.specs.Generators.{permsCheck, groupChecks, rowsOf}
-use Rattle.generators.specs.Tables.{answers, zeros, restsClear, unusedClear, holdGroup}
+use Rattle.generators.specs.Tables.{zeros, restsClear, unusedClear, holdGroup}
 
 module _ (k n : ℕ) (targets orders : List ℕ) where
   pub hold-many : maxGenerators < k → holdGroup k n targets orders ≡ false

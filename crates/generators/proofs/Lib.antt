@@ -2,7 +2,6 @@
 pub mod Stores
 pub mod Lattices
 pub mod Zeros
-pub mod Verdicts
 pub mod Written
 pub mod Faults
 pub mod Placed

@@ -1,6 +1,6 @@
 -- A generator list read generator by generator.
 -- What carries it: the permutations of the list are those that were read and those that what is left of it writes.
-use Prim.Native.Nat.{ℕ, _+_, _-_, _*_, _≤_, _<_}
+use Prim.Native.Nat.{ℕ, suc, _+_, _-_, _*_, _≤_, _<_}
 use mathlib.Core.Path.{_≡_, refl, sym, ap, _∙_}
 use mathlib.Core.Bool.{true, false}
 use mathlib.Core.List.{List, [], _∷_, _++_, append-assoc, append-nil}
@@ -11,8 +11,8 @@ use lib.ListN.{length, getD, take, drop, replicate, length-append}
 use Rattle.pauli_word.specs.Limits.{maxSites}
 use Rattle.permutation.specs.Limits.{maxGenerators, targetPlaces}
 use Rattle.permutation.specs.Generators.{endsInside, permsOf, fine, permCheck, permsCheck}
-use Rattle.permutation.proofs.Rules.{perm-fine}
-use Rattle.generators.specs.Tables.{placed, placedAll}
+use Rattle.permutation.proofs.Rules.{perm-fine, orNext-fine}
+use Rattle.generators.specs.Tables.{placed, placedAll, passing}
 use Rattle.generators.proofs.Written.{ends-next, ends-fits, perms-none, perms-next}
 use Rattle.generators.proofs.Placed.{filled-length, placed-next, placed-next-length}
 
@@ -25,6 +25,15 @@ pub record Read (list : List ℕ) (sites : ℕ) (targets : List ℕ) (at g : ℕ
   pub stored : targets ≡ placedAll perms
   pub ends : endsInside (drop at list) ≡ false
   pub check : permsCheck sites 0 (permsOf list) ≡ permsCheck sites g (permsOf (drop at list))
+  pub passed : passing sites 0 (permsOf list) ≡ perms ++ passing sites g (permsOf (drop at list))
+
+-- where no rule is broken, all permutations pass
+pub passing-all : (n i : ℕ) (perms : List (List ℕ)) → permsCheck n i perms .broken ≡ false → passing n i perms ≡ perms
+unfolding permsCheck passing
+passing-all n i [] h = refl
+passing-all n i (p ∷ perms) h =
+    let (one, rest) = orNext-fine (permCheck n i p) (permsCheck n (suc i) perms) h in
+    rw one (ap (λ (ps : List (List ℕ)). p ∷ ps) (passing-all n (suc i) perms rest))
 
 -- the targets of the generator that begins at a place
 abbrev pub permAt : List ℕ → ℕ → List ℕ
@@ -43,6 +52,7 @@ read-none list sites targets e z =
       stored = z;
       ends = e;
       check = refl;
+      passed = refl;
     }
 
 module _ {list : List ℕ} {sites : ℕ} {targets : List ℕ} {at g : ℕ} (r : Read list sites targets at g) (few : length (permsOf list) ≤ maxGenerators) where
@@ -53,13 +63,15 @@ module _ {list : List ℕ} {sites : ℕ} {targets : List ℕ} {at g : ℕ} (r : 
   unfolding placedAll
   targets-long = ap length (r .stored) ∙ filled-length targetPlaces (placed (r .perms)) (omega (arith, counted, r .long))
 
-  pub read-all : length list ≤ at → (permsCheck sites 0 (permsOf list) ≡ fine) × (targets ≡ placedAll (permsOf list))
-  unfolding permsCheck
+  -- nothing more passes: what is placed is what passes
+  ended : passing sites g (permsOf (drop at list)) ≡ [] → targets ≡ placedAll (passing sites 0 (permsOf list))
+  ended e = r .stored ∙ ap placedAll (sym (r .passed ∙ ap (λ (ps : List (List ℕ)). r .perms ++ ps) e ∙ append-nil (r .perms)))
+
+  pub read-all : length list ≤ at → (permsCheck sites 0 (permsOf list) ≡ fine) × (targets ≡ placedAll (passing sites 0 (permsOf list)))
+  unfolding permsCheck passing
   read-all h =
-      let none = perms-none list at h in (
-        r .check ∙ ap (permsCheck sites g) none,
-        r .stored ∙ ap placedAll (sym (r .whole ∙ ap (λ (ps : List (List ℕ)). r .perms ++ ps) none ∙ append-nil (r .perms))),
-      )
+      let none = perms-none list at h in
+      (r .check ∙ ap (permsCheck sites g) none, ended (ap (passing sites g) none))
 
   module _ (more : at < length list) where
     pub generator-fits : at + 1 + getD list at 0 ≤ length list
@@ -76,9 +88,11 @@ module _ {list : List ℕ} {sites : ℕ} {targets : List ℕ} {at g : ℕ} (r : 
     checked : permsCheck sites 0 (permsOf list) ≡ permsCheck sites g (permAt list at ∷ permsOf (drop (at + 1 + getD list at 0) list))
     checked = r .check ∙ ap (permsCheck sites g) next
 
-    pub read-broken : permCheck sites g (permAt list at) .broken ≡ true → permsCheck sites 0 (permsOf list) ≡ permCheck sites g (permAt list at)
-    unfolding permsCheck
-    read-broken e = checked ∙ rw e
+    pub read-broken :
+        permCheck sites g (permAt list at) .broken ≡ true
+        → (permsCheck sites 0 (permsOf list) ≡ permCheck sites g (permAt list at)) × (targets ≡ placedAll (passing sites 0 (permsOf list)))
+    unfolding permsCheck passing
+    read-broken e = (checked ∙ rw e, ended (ap (passing sites g) next ∙ rw e))
 
     module _ (small : sites ≤ maxSites) (ok : permCheck sites g (permAt list at) .broken ≡ false) where
       pub generator-long : length (permAt list at) ≡ sites
@@ -87,7 +101,7 @@ module _ {list : List ℕ} {sites : ℕ} {targets : List ℕ} {at g : ℕ} (r : 
       pub read-next :
           Read list sites (take (maxSites * g) targets ++ (permAt list at ++ drop (maxSites * g + sites - maxSites * g) (drop (maxSites * g) targets)))
           (at + 1 + getD list at 0) (g + 1)
-      unfolding permsCheck
+      unfolding permsCheck passing
       read-next =
           record {
             perms = r .perms ++ (permAt list at ∷ []);
@@ -102,4 +116,8 @@ module _ {list : List ℕ} {sites : ℕ} {targets : List ℕ} {at g : ℕ} (r : 
                 ∙ placed-next (r .perms) (permAt list at) g (r .long) generator-room (omega (arith, generator-long));
             ends = sym (ends-next list at more (ends-fits list at more (r .ends))) ∙ r .ends;
             check = rw (add-one g) (checked ∙ rw ok);
+            passed = rw (add-one g)
+                (r .passed
+                ∙ ap (λ (ps : List (List ℕ)). r .perms ++ ps) (ap (passing sites g) next ∙ rw ok)
+                ∙ sym (append-assoc (r .perms) (permAt list at ∷ []) (passing sites (suc g) (permsOf (drop (at + 1 + getD list at 0) list)))));
           }

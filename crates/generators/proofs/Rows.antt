@@ -14,13 +14,12 @@ use Rattle.outcome.specs.Outcome.{Check}
 use Rattle.action.specs.Lists.{from, below, every}
 use Rattle.action.specs.Permutation.{Permutes}
 use Rattle.action.proofs.Order.{order-positive}
-use Rattle.permutation.specs.declared.inner.TargetFault.{TargetFault}
+use Rattle.outcome.specs.declared.Refusal.{Refusal}
 use Rattle.permutation.specs.Generators.{fine, broke, targetsCheck, permCheck, permsCheck, orderCheck, ordersCheck, rowAt, rowsOf}
-use Rattle.permutation.specs.Parts.{faultCheck}
 use Rattle.permutation.proofs.Pairs.{rows-length, row-at, rows-cons, rows-nil, row-target}
 use Rattle.permutation.proofs.Rules.{perms-fine, orders-fine, member-at}
 use Rattle.generators.specs.Tables.{zeros, restsClear}
-use Rattle.generators.proofs.Faults.{perm-told}
+use Rattle.generators.proofs.Faults.{perm-targets}
 
 pub row-long : (n : ℕ) (targets : List ℕ) (g : ℕ) → maxSites * g + n ≤ length targets → length (rowAt n targets g) ≡ n
 row-long n targets g h = length-take-le n (drop (maxSites * g) targets) (omega (arith, length-drop (maxSites * g) targets))
@@ -40,11 +39,10 @@ part-row n targets g = ap (λ (k : ℕ). take k (drop (maxSites * g) targets)) (
 
 -- ---- 5 to 7
 
-pub row-told :
+pub row-check :
     (n : ℕ) (targets : List ℕ) (g : ℕ) → maxSites * g + n ≤ length targets
-    → (r : TargetFault) → ((j : ℕ) → faultCheck j r ≡ targetsCheck n j [] (partAt n targets g)) → permCheck n g (rowAt n targets g) ≡ faultCheck g r
-row-told n targets g h r told =
-    perm-told n g (rowAt n targets g) r (row-long n targets g h) (λ j. told j ∙ ap (targetsCheck n j []) (part-row n targets g))
+    → permCheck n g (rowAt n targets g) ≡ targetsCheck n g [] (partAt n targets g)
+row-check n targets g h = perm-targets n g (rowAt n targets g) (row-long n targets g h) ∙ ap (targetsCheck n g []) (sym (part-row n targets g))
 
 module _ (k n : ℕ) (targets : List ℕ) where
   -- the check of the generators from g on
@@ -60,7 +58,7 @@ module _ (k n : ℕ) (targets : List ℕ) where
     unfolding permsCheck
     perms-broken e = rw (rows-cons k n targets g more, e)
 
-    pub perms-next : permCheck n g (rowAt n targets g) ≡ fine → permsFrom g ≡ permsFrom (g + 1)
+    pub perms-next : permCheck n g (rowAt n targets g) .broken ≡ false → permsFrom g ≡ permsFrom (g + 1)
     unfolding permsCheck
     perms-next e = rw (rows-cons k n targets g more, e, add-one)
 
@@ -91,9 +89,9 @@ module _ (k n : ℕ) (targets orders : List ℕ) (long : k ≤ length orders) wh
         ∙ ap (λ (o : ℕ). o ∷ drop (suc g) (take k orders)) (getD-take k orders g 0 more)
 
     pub orders-broken :
-        (vs : List ℕ) (number : ℕ) → orderCheck g (rowAt n targets g) (getD orders g 0) ≡ broke number vs → ordersFrom k n targets orders g ≡ broke number vs
+        (why : Refusal) → orderCheck g (rowAt n targets g) (getD orders g 0) ≡ broke why → ordersFrom k n targets orders g ≡ broke why
     unfolding ordersCheck
-    orders-broken vs number e = rw (rows-cons k n targets g more, first, e)
+    orders-broken why e = rw (rows-cons k n targets g more, first, e)
 
     pub orders-next : orderCheck g (rowAt n targets g) (getD orders g 0) ≡ fine → ordersFrom k n targets orders g ≡ ordersFrom k n targets orders (g + 1)
     unfolding ordersCheck

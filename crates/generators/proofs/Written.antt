@@ -12,7 +12,8 @@ use lib.ListN.{length, getD, take, drop, length-drop, drop-of-length-le}
 use lib.Seq.{drop-cons, drop-drop}
 use borrow.Author.Tests.{lt-ltb, le-ltb, ltb-false}
 use Rattle.permutation.specs.Generators.{endsWithin, endsInside, permsWithin, permsOf}
-use Rattle.generators.specs.declared.list.Scan.the-variants as Scan
+use Rattle.outcome.specs.declared.Refusal.the-variants as Refusal
+use Rattle.outcome.specs.Outcome.{answer, refusalOf}
 use Rattle.generators.specs.Parts.{scanOutcome}
 
 drop-short : (n : ℕ) (l : List ℕ) (f : ℕ) → suc (length l) ≤ suc f → length (drop n l) ≤ f
@@ -102,10 +103,10 @@ module _ (list : List ℕ) (at : ℕ) where
 
 -- ---- how many generators it writes
 
-pub scan-ends : (list : List ℕ) → endsInside list ≡ true → scanOutcome list ≡ Scan.EndsInside
+pub scan-ends : (list : List ℕ) → endsInside list ≡ true → scanOutcome list ≡ refusalOf Refusal.ListEndsInside
 unfolding scanOutcome
 scan-ends list e = rw e
 
-pub scan-counts : (list : List ℕ) (k : ℕ) → endsInside list ≡ false → length (permsOf list) ≡ k → scanOutcome list ≡ Scan.Count k
+pub scan-counts : (list : List ℕ) (k : ℕ) → endsInside list ≡ false → length (permsOf list) ≡ k → scanOutcome list ≡ answer k
 unfolding scanOutcome
 scan-counts list k e l = rw (e, l)

@@ -1,14 +1,14 @@
 -- Tables of targets, 256 places a generator, and of orders: those of given generators, and which tables hold a group.
-use Prim.Native.Nat.{ℕ, _-_, _*_}
-use mathlib.Core.Bool.{Bool, true, false, _&&_}
+use Prim.Native.Nat.{ℕ, suc, _-_, _*_}
+use mathlib.Core.Bool.{Bool, _&&_, cond}
 use mathlib.Core.List.{List, [], _∷_, _++_}
 use lib.Dec.{eqb}
 use lib.ListN.{length, take, drop, replicate}
 use Rattle.pauli_word.specs.Limits.{maxSites}
-use Rattle.outcome.specs.Outcome.{Outcome, refused, answer, verdict}
+use Rattle.outcome.specs.Outcome.{verdict, answers}
 use Rattle.action.specs.Lists.{below, every}
 use Rattle.permutation.specs.Limits.{targetPlaces}
-use Rattle.permutation.specs.Generators.{generatorCount, permsCheck, groupChecks, rowAt, rowsOf}
+use Rattle.permutation.specs.Generators.{generatorCount, permsCheck, groupChecks, rowAt, rowsOf, permCheck}
 
 -- a list and zeros after it, k places in all
 abbrev pub filled : ℕ → List ℕ → List ℕ
@@ -23,6 +23,12 @@ unfoldable pub placedAll : List (List ℕ) → List ℕ
 unfolding placed
 placedAll perms = filled targetPlaces (placed perms)
 
+-- the permutations from generator i on, up to the first that breaks a rule of 5 to 7
+unfoldable pub passing : ℕ → ℕ → List (List ℕ) → List (List ℕ)
+unfolding permCheck
+passing n i [] = []
+passing n i (perm ∷ perms) = let r = perm ∷ passing n (suc i) perms in cond (permCheck n i perm .broken) [] r
+
 -- whether all members are 0
 abbrev pub zeros : List ℕ → Bool
 zeros xs = every (λ x. eqb x 0) xs
@@ -35,11 +41,6 @@ restsClear k n targets = every (λ i. zeros (drop n (rowAt maxSites targets i)))
 unfoldable pub unusedClear : ℕ → ℕ → List ℕ → List ℕ → Bool
 unfolding restsClear
 unusedClear k n targets orders = restsClear k n targets && zeros (drop (maxSites * k) targets) && zeros (drop k orders)
-
--- whether an outcome is an answer
-abbrev pub answers : {A : Type 0} → Outcome A → Bool
-answers (refused k vs) = false
-answers (answer a) = true
 
 -- whether tables hold the k generators of a group of n sites: no more than 4, which break none of the rules 5 to 13, and unused places 0
 unfoldable pub holdGroup : ℕ → ℕ → List ℕ → List ℕ → Bool

@@ -7,17 +7,13 @@ ghost use Rattle.pauli_word.specs.Limits.{maxSites};
 ghost use Rattle.action.specs.Lists.{below};
 ghost use Rattle.action.specs.Lattice.{shifted as shiftedSite};
 ghost use Rattle.generators.specs.Parts.{sidesOutcome};
+ghost use Rattle.outcome.specs.Outcome.{outcomeOfNumber};
+use outcome::Number;
+use outcome::Refusal;
 
-// The sites of a lattice.
-pub enum Sides {
-    Zero,
-    TooLarge,
-    Sites(usize),
-}
-
-// The sites of a lattice by its sides: their product, found without overflow.
+// The sites of a lattice by its sides: their product, found without overflow; or 26, 27.
 pub fn sites_of(a: usize, b: usize, c: usize) -> Number
-    ensures { λ r. ⌜ r ≡ sidesOutcome a b c ⌝ }
+    ensures { λ r. ⌜ outcomeOfNumber r ≡ sidesOutcome a b c ⌝ }
 {
     if a == 0 {
         return Number::Refused(Refusal::ZeroSide);

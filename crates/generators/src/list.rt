@@ -2,33 +2,22 @@
 // Whoever calls a function here owes its `requires`.
 ghost use mathlib.Core.Path.{_≡_};
 ghost use mathlib.Core.Bool.{false};
-ghost use mathlib.Core.List.{[], _∷_};
 ghost use Prim.Native.Nat.{_≤_};
 ghost use lib.ListN.{length, replicate};
 ghost use Rattle.pauli_word.specs.Limits.{maxSites};
-ghost use Rattle.outcome.specs.Outcome.{answer, verdict};
+ghost use Rattle.outcome.specs.Outcome.{alone, outcomeOfVerdict, outcomeOfNumber};
 ghost use Rattle.permutation.specs.Limits.{targetPlaces, maxGenerators};
 ghost use Rattle.permutation.specs.Generators.{endsInside, permsOf, permCheck, permsCheck};
-ghost use Rattle.generators.specs.Tables.{placedAll};
-ghost use Rattle.generators.specs.Parts.{scanOutcome, outcomeOfVerdict};
+ghost use Rattle.generators.specs.Tables.{placedAll, passing};
+ghost use Rattle.generators.specs.Parts.{scanOutcome};
+use outcome::Number;
+use outcome::Refusal;
+use outcome::Verdict;
 use pauli_word::MAX_SITES;
-use permutation::inner::TargetFault;
 
-// How many generators a list writes.
-pub enum Scan {
-    Count(usize),
-    EndsInside,
-}
-
-// What checks of generators come to.
-pub enum Checked {
-    Fine,
-    Broken(Refusal),
-}
-
-// Counts the generators of a list.
+// How many generators a list writes, or 2.
 pub fn count_generators(list: &[u32]) -> Number
-    ensures { λ r. ⌜ r ≡ scanOutcome (now (list .entry)) ⌝ }
+    ensures { λ r. ⌜ outcomeOfNumber r ≡ scanOutcome (now (list .entry)) ⌝ }
 {
     let mut at = 0;
     let mut count = 0;
@@ -59,31 +48,21 @@ pub fn copy(src: &[u32], dst: &mut [u32])
 // The first fault of a generator, 5 to 7.
 pub fn fault(generator: usize, perm: &[u32], sites: usize) -> Verdict
     requires { ⌜ sites ≤ maxSites ⌝ }
-    ensures { λ r. ⌜ outcomeOfVerdict r ≡ verdict (permCheck sites generator (now (perm .entry)) ∷ []) ⌝ }
+    ensures { λ r. ⌜ outcomeOfVerdict r ≡ alone (permCheck sites generator (now (perm .entry))) ⌝ }
 {
     if perm.len() != sites {
         return Verdict::Refused(Refusal::PermutationLength(generator, perm.len()));
     }
-    match permutation::inner::first_fault(perm, sites) {
-        TargetFault::Nothing => Verdict::Accepted,
-        TargetFault::OutOfRange(target) => Verdict::Refused(Refusal::TargetOutOfRange(
-            generator,
-            target,
-        )),
-        TargetFault::Duplicate(target) => Verdict::Refused(Refusal::DuplicateTarget(
-            generator,
-            target,
-        )),
-    }
+    permutation::inner::first_fault(generator, perm, sites)
 }
 
-// The targets of a list's generators, 256 places each, over zeros; or the first fault, 5 to 7.
+// The targets of a list's generators, 256 places each, over zeros, up to the first fault, 5 to 7.
 pub fn fill_targets(list: &[u32], sites: usize, targets: &mut [u32]) -> Verdict
     requires { ⌜ sites ≤ maxSites ⌝ }
     requires { ⌜ (endsInside (now list) ≡ false) × (length (permsOf (now list)) ≤ maxGenerators) ⌝ }
     requires { ⌜ now targets ≡ replicate targetPlaces 0 ⌝ }
-    ensures answer { λ r. ⌜ outcomeOfVerdict r ≡ verdict (permsCheck sites 0 (permsOf (now (list .entry))) ∷ []) ⌝ }
-    ensures targets { λ r. ⌜ (outcomeOfVerdict r ≡ answer tt → now (targets .exit) ≡ placedAll (permsOf (now (list .entry)))) ⌝ }
+    ensures answer { λ r. ⌜ outcomeOfVerdict r ≡ alone (permsCheck sites 0 (permsOf (now (list .entry)))) ⌝ }
+    ensures targets { λ _. ⌜ now (targets .exit) ≡ placedAll (passing sites 0 (permsOf (now (list .entry)))) ⌝ }
 {
     let mut at = 0;
     let mut g = 0;

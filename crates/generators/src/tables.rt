@@ -1,38 +1,36 @@
 // Tables of targets and orders: the rules 8 to 13, and which tables hold a group. Whoever calls a function here owes its `requires`.
 ghost use mathlib.Core.Path.{_≡_};
 ghost use mathlib.Core.Bool.{not};
-ghost use mathlib.Core.List.{[], _∷_};
 ghost use Prim.Native.Nat.{ℕ, _≤_, _<_};
 ghost use lib.ListN.{length, take};
 ghost use Rattle.pauli_word.specs.Limits.{maxSites};
-ghost use Rattle.outcome.specs.Outcome.{verdict};
+ghost use Rattle.outcome.specs.Outcome.{verdict, alone, outcomeOfVerdict};
 ghost use Rattle.action.specs.Permutation.{Permutes};
 ghost use Rattle.permutation.specs.Limits.{targetPlaces, maxGenerators};
 ghost use Rattle.permutation.specs.Generators.{permsCheck, ordersCheck, groupChecks, rowAt, rowsOf};
 ghost use Rattle.generators.specs.Tables.{zeros, restsClear, holdGroup};
-ghost use Rattle.generators.specs.Parts.{outcomeOfVerdict};
+use outcome::Number;
+use outcome::Refusal;
+use outcome::Verdict;
 use pauli_word::MAX_SITES;
 use permutation::MAX_GENERATORS;
 use permutation::MAX_ORDER;
-use permutation::inner::ExactOrder;
-use permutation::inner::Pair;
-use permutation::inner::TargetFault;
 
 // The first fault of the orders, 8 to 10.
 pub fn orders_fault(targets: &[u32], orders: &[u32], generators: usize, sites: usize) -> Verdict
     requires { ⌜ (length (now targets) ≡ targetPlaces) × (length (now orders) ≡ maxGenerators) × (generators ≤ maxGenerators) × (sites ≤ maxSites) ⌝ }
     requires { ⌜ ((g : ℕ) → g < generators → Permutes sites (rowAt sites (now targets) g)) ⌝ }
-    ensures { λ r. ⌜ outcomeOfVerdict r ≡ verdict (ordersCheck 0 (rowsOf generators sites (now (targets .entry))) (take generators (now (orders .entry))) ∷ []) ⌝ }
+    ensures { λ r. ⌜ outcomeOfVerdict r ≡ alone (ordersCheck 0 (rowsOf generators sites (now (targets .entry))) (take generators (now (orders .entry)))) ⌝ }
 {
     let mut g = 0;
     while g < generators {
-        let declared = orders[g];
+        let declared = orders[g] as usize;
         if declared == 0 {
             return Verdict::Refused(Refusal::ZeroOrder(g));
         }
         let start = MAX_SITES * g;
         let end = start + sites;
-        let ExactOrder::Order(exact) = permutation::inner::exact_order(&targets[start..end]) else {
+        let Number::Value(exact) = permutation::inner::exact_order(g, &targets[start..end]) else {
             return Verdict::Refused(Refusal::PermutationOrderOverflow(g));
         };
         if declared != exact {
@@ -52,8 +50,8 @@ pub fn group_fault(targets: &[u32], orders: &[u32], generators: usize, sites: us
     if let Verdict::Refused(why) = orders_fault(targets, orders, generators, sites) {
         return Verdict::Refused(why);
     }
-    if let Pair::Found(left, right) = permutation::inner::first_pair(targets, generators, sites) {
-        return Verdict::Refused(Refusal::NonCommuting(left, right));
+    if let Verdict::Refused(why) = permutation::inner::first_pair(targets, generators, sites) {
+        return Verdict::Refused(why);
     }
     let Number::Value(order) = permutation::inner::group_order(orders, generators) else {
         return Verdict::Refused(Refusal::GroupOrderOverflow);
@@ -87,7 +85,7 @@ pub fn perms_fine(targets: &[u32], generators: usize, sites: usize) -> bool
     while g < generators {
         let start = MAX_SITES * g;
         let end = start + sites;
-        let TargetFault::Nothing = permutation::inner::first_fault(&targets[start..end], sites)
+        let Verdict::Accepted = permutation::inner::first_fault(g, &targets[start..end], sites)
         else {
             return false;
         };

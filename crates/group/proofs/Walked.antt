@@ -199,7 +199,7 @@ module _ (v : Walk) (one : isWalk v ≡ true) (ok : AcceptedGroup (v .group)) (l
   back : bytesOf (reach (generatorsOf (v .group)) (v .index) (lettersIn (v .group .sites) (bytesOf (beginningOf v)))) ≡ v .word
   back =
       ap bytesOf
-      (ap (reach (generatorsOf (v .group)) (v .index)) (encoded-lettersIn (beginningOf v) beginning-long few refl)
+      (ap (reach (generatorsOf (v .group)) (v .index)) (encoded-decode planeLength (beginningOf v) beginning-long few refl)
       ∙ reach-of-inverse (held-valid (v .group) ok long) (v .index) (lettersIn (v .group .sites) (v .word)) (decode-length now))
       ∙ encode-decode now
 

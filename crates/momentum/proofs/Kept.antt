@@ -169,13 +169,13 @@ module _ (g : Group) where
         word = encoded-accepted planeLength v letters (given-sites g given) refl
 
         decoded : lettersIn n coded ≡ v
-        decoded = encoded-lettersIn v letters (given-sites g given) refl
+        decoded = encoded-decode planeLength v letters (given-sites g given) refl
 
         own : isOwn coded (withIndexOutcome g n coded) ≡ isRepresentative gs v
         unfolding isRepresentative
         own =
             ap (isOwn coded) (index-answer coded word)
-            ∙ rw decoded (sameBytes-bytesOf n (given-sites g given) (least gs v) v (least-length valid v ∙ letters) letters)
+            ∙ rw decoded (sameBytes-encode planeLength n (given-sites g given) (least gs v) v (least-length valid v ∙ letters) letters)
 
         count-own : count (λ ks. keptOwn ks coded) (allModes gs) ≡ cond (isRepresentative gs v) (keptLists (keeps gs) gs v) 0
         count-own =

@@ -112,7 +112,7 @@ module _ {k n : ℕ} {targets orders : List ℕ} (t : Tables k n targets orders)
 
   reached : same (lettersIn n here) w ≡ fixes gs w i
   unfolding fixes
-  reached = ap (λ (u : Word). same u w) (encoded-lettersIn (reach gs i w) (reach-length gs i w ∙ decode-length ok) (t .sites) e)
+  reached = ap (λ (u : Word). same u w) (encoded-decode planeLength (reach gs i w) (reach-length gs i w ∙ decode-length ok) (t .sites) e)
 
   pub bytes-fixed : o ≡ Same → fixes gs w i ≡ true
   bytes-fixed h = sym reached ∙ same-taken accepted ok eo h

@@ -12,7 +12,7 @@ use Rattle.pauli_word.specs.Limits.{planeLength}
 use Rattle.pauli_word.specs.declared.Ordering.{Ordering}
 use Rattle.pauli_word.specs.declared.Ordering.the-variants.{Less, Same, Greater}
 use Rattle.pauli_word.specs.Word.{Word, same, less}
-use Rattle.pauli_word.specs.Bytes.{planeBits, decode, encode, AcceptedWord}
+use Rattle.pauli_word.specs.Bytes.{planeBits, AcceptedWord, lettersIn, bytesOf}
 use Rattle.pauli_word.specs.Calls.{orderOfWords, orderOfBits}
 use Rattle.pauli_word.proofs.Order.{same-refl, same-eq, less-irrefl, less-total, order-words}
 use Rattle.pauli_word.proofs.Words.{decode-length, encode-decode, encoded-accepted, encoded-decode}
@@ -178,8 +178,8 @@ module _ {k n : ℕ} {targets orders : List ℕ} (t : Tables k n targets orders)
       ≡ less (reach (generatorsIn k n targets orders) i w) (lead (generatorsIn k n targets orders) w i)
   compared =
       let gs : List Generator = generatorsIn k n targets orders in
-      ap₂ less (encoded-lettersIn (reach gs i w) (reach-length gs i w ∙ long) (t .sites) eh)
-      (encoded-lettersIn (lead gs w i) lowest (t .sites) eb)
+      ap₂ less (encoded-decode planeLength (reach gs i w) (reach-length gs i w ∙ long) (t .sites) eh)
+      (encoded-decode planeLength (lead gs w i) lowest (t .sites) eb)
 
   pub lead-bytes : {next : List ℕ} → next ≡ cond (less (lettersIn n here) (lettersIn n best)) here best
       → next ≡ bytesOf (lead (generatorsIn k n targets orders) w (i + 1))

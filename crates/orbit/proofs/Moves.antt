@@ -11,7 +11,7 @@ use lib.ListN.{length, getD, set, take, drop, replicate, length-replicate, getD-
 use lib.Seq.{getD-take, take-all, length-take-le}
 use Rattle.pauli_word.specs.Limits.{planeLength}
 use Rattle.pauli_word.specs.Word.{I, Word, letterOf}
-use Rattle.pauli_word.specs.Bytes.{planeBits, decode, encode, withSite, AcceptedWord}
+use Rattle.pauli_word.specs.Bytes.{planeBits, withSite, AcceptedWord, lettersIn, bytesOf}
 use Rattle.pauli_word.proofs.Words.{xBit-letterOf, zBit-letterOf, decode-length, encode-set}
 use Rattle.pauli_word.proofs.Sites.{letter-at}
 use Rattle.action.specs.Permutation.{target, Permutes}

@@ -10,7 +10,7 @@ use lib.ListN.{length, take, drop, length-append, length-take, length-drop, leng
 use lib.Seq.{take-at, drop-at, drop-drop}
 use Rattle.pauli_word.specs.Limits.{planeLength, wordLength}
 use Rattle.pauli_word.specs.Word.{Word}
-use Rattle.pauli_word.specs.Bytes.{decode, encode, AcceptedWord}
+use Rattle.pauli_word.specs.Bytes.{AcceptedWord, lettersIn, bytesOf}
 use Rattle.pauli_word.proofs.Words.{map-append, encode-length, encode-decode, encoded-accepted, encoded-decode}
 use Rattle.action.specs.Lists.{from, below}
 use Rattle.action.specs.Permutation.{Generator}
@@ -69,7 +69,7 @@ module _ {k n : ℕ} {targets orders : List ℕ} (t : Tables k n targets orders)
       a
       ∙ ap bytesOf
       (ap (stepped (generatorsIn k n targets orders) (digits (generatorsIn k n targets orders) i))
-      (encoded-lettersIn (reach (generatorsIn k n targets orders) i w) reach-long (t .sites) e)
+      (encoded-decode planeLength (reach (generatorsIn k n targets orders) i w) reach-long (t .sites) e)
       ∙ sym (reach-step (t .valid) i w long)
       ∙ ap (λ (j : ℕ). reach (generatorsIn k n targets orders) j w) (sym (add-one i)))
 
@@ -87,9 +87,25 @@ encodeAll-length [] = refl
 encodeAll-length (w ∷ ws) =
     omega (arith, length-append (bytesOf w) (encodeAll ws), encode-length planeLength w, encodeAll-length ws)
 
+-- a list with the entries before place i stored, m places each, and the next one stored behind them: of any width m
+module _ (m i : ℕ) where
+  -- the part of a list that entry i takes
+  pub part-length : (list : List ℕ) → m * i + m ≤ length list → length (take (m * i + m - m * i) (drop (m * i) list)) ≡ m
+  part-length list h = simp (length-take, length-drop) (omega arith)
+
+  stored-next :
+      (front list bytes now : List ℕ) → length front ≡ m * i → now ≡ front ++ drop (m * i) list
+      → take (m * i) now ++ (bytes ++ drop (m * i + m - m * i) (drop (m * i) now)) ≡ (front ++ bytes) ++ drop (m * (i + 1)) list
+  stored-next front list bytes now long e =
+      let more : m * (i + 1) ≡ m * i + m = omega arith in
+      ap₂ (λ (a d : List ℕ). a ++ (bytes ++ drop (m * i + m - m * i) d))
+      (ap (take (m * i)) e ∙ take-at front (drop (m * i) list) (m * i) long)
+      (ap (drop (m * i)) e ∙ drop-at front (drop (m * i) list) (m * i) long)
+      ∙ rw (add-sub-cancel-left (m * i) m, drop-drop, more, append-assoc)
+
 -- the first i entries, and the list as it was behind them
 abbrev pub filled : List Generator → Word → List ℕ → ℕ → List ℕ
-filled gs w list i = encodeAll (entries gs w i) ++ drop (64 * i) list
+filled gs w list i = encodeAll (entries gs w i) ++ drop (wordLength * i) list
 
 pub filled-start : (gs : List Generator) (w : Word) (list : List ℕ) → list ≡ filled gs w list 0
 unfolding encodeAll below from
@@ -98,27 +114,21 @@ filled-start gs w list = refl
 -- a list of one entry for each index stays that long
 pub filled-length : (gs : List Generator) (w : Word) (list : List ℕ) (i o : ℕ) → length list ≡ wordLength * o → i ≤ o → length (filled gs w list i) ≡ wordLength * o
 filled-length gs w list i o l h =
-    length-append (encodeAll (entries gs w i)) (drop (64 * i) list)
-    ∙ omega (arith, encodeAll-length (entries gs w i), entries-length gs w i, length-drop (64 * i) list)
-
--- the part of a list that entry i takes
-pub part-length : (list : List ℕ) (i : ℕ) → 64 * i + 64 ≤ length list → length (take (64 * i + 64 - 64 * i) (drop (64 * i) list)) ≡ 64
-part-length list i h = simp (length-take, length-drop) (omega arith)
+    length-append (encodeAll (entries gs w i)) (drop (wordLength * i) list)
+    ∙ omega (arith, encodeAll-length (entries gs w i), entries-length gs w i, length-drop (wordLength * i) list)
 
 -- the next entry stored behind the first i, in the part of the list that it takes
 pub filled-next : (gs : List Generator) (w : Word) (list now bytes : List ℕ) (i : ℕ) → now ≡ filled gs w list i → bytes ≡ bytesOf (reach gs i w)
-    → take (64 * i) now ++ (bytes ++ drop (64 * i + 64 - 64 * i) (drop (64 * i) now)) ≡ filled gs w list (i + 1)
+    → take (wordLength * i) now ++ (bytes ++ drop (wordLength * i + wordLength - wordLength * i) (drop (wordLength * i) now)) ≡ filled gs w list (i + 1)
 unfolding encodeAll
 filled-next gs w list now bytes i e b =
-    let front : length (encodeAll (entries gs w i)) ≡ 64 * i = encodeAll-length (entries gs w i) ∙ ap (λ (j : ℕ). 64 * j) (entries-length gs w i) in
-    let more : 64 * (i + 1) ≡ 64 * i + 64 = omega arith in
-    ap₂ (λ (a d : List ℕ). a ++ (bytes ++ drop (64 * i + 64 - 64 * i) d))
-    (ap (take (64 * i)) e ∙ take-at (encodeAll (entries gs w i)) (drop (64 * i) list) (64 * i) front)
-    (ap (drop (64 * i)) e ∙ drop-at (encodeAll (entries gs w i)) (drop (64 * i) list) (64 * i) front)
-    ∙ rw (add-sub-cancel-left (64 * i) 64, drop-drop, b, more, entries-next, encodeAll-append, append-nil, append-assoc)
+    let more : encodeAll (entries gs w i) ++ bytes ≡ encodeAll (entries gs w (i + 1)) = rw (b, entries-next, encodeAll-append, append-nil) in
+    stored-next wordLength i (encodeAll (entries gs w i)) list bytes now
+    (encodeAll-length (entries gs w i) ∙ ap (λ (j : ℕ). wordLength * j) (entries-length gs w i)) e
+    ∙ ap (λ (l : List ℕ). l ++ drop (wordLength * (i + 1)) list) more
 
 pub filled-end : (gs : List Generator) (w : Word) (list : List ℕ) (i o : ℕ) → o ≡ orderOf gs → length list ≡ wordLength * o → o ≤ i → i ≤ o
     → filled gs w list i ≡ encodeAll (orbitList gs w)
 filled-end gs w list i o eo l h k =
     let e : i ≡ orderOf gs = omega arith in
-    rw (drop-of-length-le list {i = 64 * i} (omega arith), append-nil) (ap encodeAll (ap (entries gs w) e ∙ entries-all gs w))
+    rw (drop-of-length-le list {i = wordLength * i} (omega arith), append-nil) (ap encodeAll (ap (entries gs w) e ∙ entries-all gs w))

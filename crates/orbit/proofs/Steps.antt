@@ -8,9 +8,9 @@ use native.Mathlib.Omega.{arith}
 use lib.Dec.{eqb}
 use lib.ListN.{length, getD, take, drop}
 use borrow.Author.Tests.{eq-eqb, ne-eqb}
-use Rattle.pauli_word.specs.Limits.{planeLength}
+use Rattle.pauli_word.specs.Limits.{planeLength, maxSites}
 use Rattle.pauli_word.specs.Word.{Word}
-use Rattle.pauli_word.specs.Bytes.{decode, encode, AcceptedWord}
+use Rattle.pauli_word.specs.Bytes.{AcceptedWord, lettersIn, bytesOf}
 use Rattle.pauli_word.proofs.Words.{decode-length, encode-decode, encoded-accepted, encoded-decode}
 use Rattle.action.specs.Permutation.{Permutes}
 use Rattle.action.specs.Index.{digits}
@@ -43,17 +43,17 @@ module _ {k n : ℕ} {targets orders : List ℕ} (t : Tables k n targets orders)
   stepped-end h = rw (rest-end t g h)
 
 -- row g as a part of the targets, from its start to its end
-row-part : (n g : ℕ) (targets : List ℕ) → take (256 * g + n - 256 * g) (drop (256 * g) targets) ≡ rowAt n targets g
-row-part n g targets = ap (λ (j : ℕ). take j (drop (256 * g) targets)) (add-sub-cancel-left (256 * g) n)
+row-part : (n g : ℕ) (targets : List ℕ) → take (maxSites * g + n - maxSites * g) (drop (maxSites * g) targets) ≡ rowAt n targets g
+row-part n g targets = ap (λ (j : ℕ). take j (drop (maxSites * g) targets)) (add-sub-cancel-left (maxSites * g) n)
 
 pub part-permutes : {k n : ℕ} {targets orders : List ℕ} → Tables k n targets orders → (g : ℕ) → g < k
-    → Permutes n (take (256 * g + n - 256 * g) (drop (256 * g) targets))
+    → Permutes n (take (maxSites * g + n - maxSites * g) (drop (maxSites * g) targets))
 part-permutes {n = n} {targets = targets} t g h = rw (row-part n g targets) (permutes-at t g h)
 
 -- the bytes of a word, moved by generator g
 module _ {k n : ℕ} {targets orders : List ℕ} (t : Tables k n targets orders) (g rest : ℕ) (h : g < k)
     {bytes moved : List ℕ} (ok : AcceptedWord n bytes)
-    (e : moved ≡ bytesOf (move (take (256 * g + n - 256 * g) (drop (256 * g) targets)) (lettersIn n bytes))) where
+    (e : moved ≡ bytesOf (move (take (maxSites * g + n - maxSites * g) (drop (maxSites * g) targets)) (lettersIn n bytes))) where
   moved-is : moved ≡ bytesOf (move (rowAt n targets g) (lettersIn n bytes))
   moved-is = e ∙ ap (λ (p : List ℕ). bytesOf (move p (lettersIn n bytes))) (row-part n g targets)
 
@@ -73,7 +73,7 @@ module _ {k n : ℕ} {targets orders : List ℕ} (t : Tables k n targets orders)
   moved-on d =
       stepped-rolls t g rest (lettersIn n bytes) h d
       ∙ ap (stepped (drop (g + 1) (generatorsIn k n targets orders)) (digits (drop (g + 1) (generatorsIn k n targets orders)) (rest / getD orders g 0)))
-      (sym (encoded-lettersIn (move (rowAt n targets g) (lettersIn n bytes)) moved-long (ok .sites) moved-is))
+      (sym (encoded-decode planeLength (move (rowAt n targets g) (lettersIn n bytes)) moved-long (ok .sites) moved-is))
 
 -- after the last generator
 pub moved-end : {k n : ℕ} {targets orders : List ℕ} → Tables k n targets orders → (g rest : ℕ) → k ≤ g → {bytes : List ℕ} → AcceptedWord n bytes

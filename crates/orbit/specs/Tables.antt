@@ -3,13 +3,13 @@ use Prim.Native.Nat.{ℕ, _≤_}
 use mathlib.Core.Path.{_≡_}
 use mathlib.Core.List.{List, [], _∷_, _++_}
 use lib.ListN.{length, take}
-use Rattle.pauli_word.specs.Limits.{maxSites, planeLength}
+use Rattle.pauli_word.specs.Limits.{maxSites}
 use Rattle.pauli_word.specs.Word.{Word}
-use Rattle.pauli_word.specs.Bytes.{encode}
 use Rattle.action.specs.Permutation.{Generator, Valid}
 use Rattle.action.specs.Index.{orderOf}
 use Rattle.permutation.specs.Limits.{maxGenerators, maxOrder, targetPlaces}
 use Rattle.permutation.specs.Generators.{declared, rowsOf}
+use Rattle.pauli_word.specs.Bytes.{bytesOf}
 
 -- the k generators of n sites that tables hold
 unfoldable pub generatorsIn : ℕ → ℕ → List ℕ → List ℕ → List Generator

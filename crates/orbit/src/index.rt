@@ -1,9 +1,8 @@
 // Indices and their digits. Whoever calls a function here owes its `requires`.
 ghost use mathlib.Core.Path.{_≡_};
-ghost use mathlib.Core.List.{_++_, map};
+ghost use mathlib.Core.List.{_++_};
 ghost use Prim.Native.Nat.{_≤_, _<_};
-ghost use lib.ListN.{length, take, drop};
-ghost use Rattle.action.specs.Arithmetic.{lcmAll};
+ghost use lib.ListN.{length, drop};
 ghost use Rattle.action.specs.Index.{orderOf, digits, inverse};
 ghost use Rattle.action.specs.Sector.{modulus};
 ghost use Rattle.orbit.specs.Tables.{generatorsIn, Tables};

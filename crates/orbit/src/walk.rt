@@ -1,11 +1,11 @@
 // The walk over a word's orbit. Whoever calls a function here owes its `requires`.
 ghost use mathlib.Core.Path.{_≡_};
-ghost use Prim.Native.Nat.{_*_, _≤_, _<_};
+ghost use Prim.Native.Nat.{_*_, _<_};
 ghost use mathlib.Core.Bool.{cond};
 ghost use lib.ListN.{length};
-ghost use Rattle.pauli_word.specs.Limits.{planeLength, wordLength};
+ghost use Rattle.pauli_word.specs.Limits.{wordLength};
 ghost use Rattle.pauli_word.specs.Word.{less};
-ghost use Rattle.pauli_word.specs.Bytes.{decode, encode, AcceptedWord};
+ghost use Rattle.pauli_word.specs.Bytes.{AcceptedWord, lettersIn, bytesOf};
 ghost use Rattle.action.specs.Permutation.{Permutes};
 ghost use Rattle.action.specs.Index.{orderOf, digits};
 ghost use Rattle.action.specs.Orbit.{move as moveBy, stepped, orbitList, least, forward};
@@ -113,7 +113,7 @@ pub fn take_lead(here: &[u8], sites: usize, i: usize, best: &mut [u8], index: us
     ensures index { λ r. ⌜ r ≡ cond (less (lettersIn sites (now (here .entry))) (lettersIn sites (now (best .entry)))) i index ⌝ }
     ensures best { λ _. ⌜ now (best .exit) ≡ cond (less (lettersIn sites (now (here .entry))) (lettersIn sites (now (best .entry)))) (now (here .entry)) (now (best .entry)) ⌝ }
 {
-    let Ordering::Less = pauli_word::compare(here, best) else {
+    let Ordering::Less = pauli_word::inner::compare_bytes(here, best) else {
         return index;
     };
     copy(here, best);

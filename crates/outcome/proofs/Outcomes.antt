@@ -39,6 +39,22 @@ module _ (check : Check) where
   pub first-refuses : (cs : List Check) → check .broken ≡ true → verdict (check ∷ cs) ≡ alone check
   first-refuses cs e = rw e
 
+-- one check, and then an answer
+module _ {A : Type 0} (c : Check) (a : A) where
+  pub one-refused : (why : Refusal) → unless (c ∷ []) (answer a) ≡ refusalOf why → c .broken ≡ true
+  one-refused why e = go (c .broken) e
+    where
+      go : (b : Bool) → given (cond b (refused (c .number) (c .values)) (answer (tt {0}))) (answer a) ≡ refusalOf why → b ≡ true
+      go true k = refl
+      go false k = absurd (refused-apart _ _ a (sym k))
+
+  pub one-answered : (b : A) → unless (c ∷ []) (answer a) ≡ answer b → (c .broken ≡ false) × (a ≡ b)
+  one-answered b e = go (c .broken) e
+    where
+      go : (t : Bool) → given (cond t (refused (c .number) (c .values)) (answer (tt {0}))) (answer a) ≡ answer b → (t ≡ false) × (a ≡ b)
+      go true k = absurd (refused-apart _ _ b k)
+      go false k = (refl, cc)
+
 -- further checks come after the first
 pub verdict-append : (cs ds : List Check) → verdict (cs ++ ds) ≡ given (verdict cs) (verdict ds)
 verdict-append [] ds = refl

@@ -24,7 +24,7 @@ use Rattle.permutation.proofs.Pairs.{commuteAt-true, of-commuteAt}
 use Rattle.permutation.proofs.Products.{product-holds}
 
 -- of two rules neither is broken
-orNext-fine : (a b : Check) → orNext a b .broken ≡ false → (a .broken ≡ false) × (b .broken ≡ false)
+pub orNext-fine : (a b : Check) → orNext a b .broken ≡ false → (a .broken ≡ false) × (b .broken ≡ false)
 orNext-fine a b h = go (a .broken) refl h
   where
     go : (t : Bool) → a .broken ≡ t → cond t a b .broken ≡ false → (a .broken ≡ false) × (b .broken ≡ false)

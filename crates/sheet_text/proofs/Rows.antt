@@ -233,7 +233,7 @@ module _ (n : ℕ) (text bytes : List ℕ) (alone : lettersAlone text ≡ true) 
   weight-few = omega (arith, weight-small (readText text), letters)
 
   pub read-word : lettersIn n bytes ≡ readText text
-  read-word = ap₂ (lettersIn) (sym letters) encoded ∙ decode-bytesOf (readText text) short
+  read-word = ap₂ (lettersIn) (sym letters) encoded ∙ decode-encode planeLength (readText text) short
 
 -- ---- the row of a word
 
@@ -282,7 +282,7 @@ module _ (gs : List Generator) (ks : List ℤ) (text : List ℕ) (alone : letter
           let (t, index, orbit) = kept-is in
           let same : bytes ≡ bytesOf (least gs w) = m ∙ rw t refl in (
             rw (same, sym size) (encode-accepted planeLength (least gs w) short),
-            ap₂ (lettersIn) (sym size) same ∙ decode-bytesOf (least gs w) short,
+            ap₂ (lettersIn) (sym size) same ∙ decode-encode planeLength (least gs w) short,
           )
 
       pub kept-small : orderOf gs ≤ maxOrder → (i < 10000000) × (size < 10000000)

@@ -9,6 +9,7 @@ use Rattle.generators.proofs.Stores.{Holds, holds-next}
 use Rattle.generators.proofs.Lattices.{shifted-small, shift-stored}
 use Rattle.generators.proofs.lattice.fill_shift.Statement.{statement}
 use Rattle.generators.proofs.lattice.fill_shift.Tie as tie
+use Rattle.pauli_word.specs.Limits.{maxSites}
 
 abbrev Inv-loop : tie.InvT-loop
 Inv-loop row₀ stride side q₀ row q = (q ≤ length row) × (length row ≡ length row₀) × Holds (shifted stride side) row q
@@ -31,7 +32,7 @@ cast-row c =
     let s = c .before .before .before .before in
     let p = s .pre in
     let l = c .before .before .loop in
-    omega (arith, c .shifted .ensures, shifted-small (s .args .stride) (s .args .side) (l .q) (p .0) (p .1) (p .2) (omega (arith, p .3, l .inv .1)))
+    omega (arith, c .shifted .ensures, shifted-small (s .args .stride) (s .args .side) (l .q) (p .0) (p .1) maxSites (p .2) (omega (arith, p .3, l .inv .1)))
 
 mul-row : tie.Need-mul-row Inv-loop μ-loop
 mul-row c = omega arith

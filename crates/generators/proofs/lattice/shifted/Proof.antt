@@ -1,4 +1,4 @@
--- `lattice::shifted` meets its contract: each part of the sum is at most 256.
+-- `lattice::shifted` meets its contract: each part of the sum is at most the sites.
 use mathlib.Core.Path.{refl}
 use native.Mathlib.Omega.{arith}
 use native.Mathlib.Nat.{mul-pos}
@@ -7,6 +7,7 @@ use Rattle.action.specs.Lattice.{shifted}
 use Rattle.generators.proofs.Lattices.{place-small, low-small, axis-small, high-small}
 use Rattle.generators.proofs.lattice.shifted.Statement.{statement}
 use Rattle.generators.proofs.lattice.shifted.Tie as tie
+use Rattle.pauli_word.specs.Limits.{maxSites}
 
 mul-block : tie.Need-mul-block
 mul-block c = search needs
@@ -21,25 +22,25 @@ rem-result : tie.Need-rem-result
 rem-result c = search needs
 
 add-result : tie.Need-add-result
-add-result c = let a = c .args in let p = c .pre in omega (arith, place-small (a .stride) (a .side) (a .q) (p .0) (p .1) (p .2))
+add-result c = let a = c .args in let p = c .pre in omega (arith, place-small (a .stride) (a .side) (a .q) (p .0) (p .1) maxSites (p .2))
 
 rem-result-2 : tie.Need-rem-result-2
 rem-result-2 c = search needs
 
 mul-result : tie.Need-mul-result
-mul-result c = let a = c .args in let p = c .pre in omega (arith, axis-small (a .stride) (a .side) (a .q) (p .0) (p .1) (p .2))
+mul-result c = let a = c .args in let p = c .pre in omega (arith, axis-small (a .stride) (a .side) (a .q) (p .0) (p .1) maxSites (p .2))
 
 add-result-2 : tie.Need-add-result-2
 add-result-2 c =
     let a = c .args in
     let p = c .pre in
-    omega (arith, low-small (a .stride) (a .side) (a .q) (p .0) (p .1) (p .2), axis-small (a .stride) (a .side) (a .q) (p .0) (p .1) (p .2))
+    omega (arith, low-small (a .stride) (a .side) (a .q) (p .0) (p .1) maxSites (p .2), axis-small (a .stride) (a .side) (a .q) (p .0) (p .1) maxSites (p .2))
 
 div-result : tie.Need-div-result
 div-result c = let p = c .pre in mul-pos (p .0) (p .1)
 
 mul-result-2 : tie.Need-mul-result-2
-mul-result-2 c = let a = c .args in let p = c .pre in omega (arith, high-small (a .stride) (a .side) (a .q) (p .0) (p .1) (p .2))
+mul-result-2 c = let a = c .args in let p = c .pre in omega (arith, high-small (a .stride) (a .side) (a .q) (p .0) (p .1) maxSites (p .2))
 
 add-result-3 : tie.Need-add-result-3
 add-result-3 c =
@@ -47,9 +48,9 @@ add-result-3 c =
     let p = c .pre in
     omega (
       arith,
-      low-small (a .stride) (a .side) (a .q) (p .0) (p .1) (p .2),
-      axis-small (a .stride) (a .side) (a .q) (p .0) (p .1) (p .2),
-      high-small (a .stride) (a .side) (a .q) (p .0) (p .1) (p .2),
+      low-small (a .stride) (a .side) (a .q) (p .0) (p .1) maxSites (p .2),
+      axis-small (a .stride) (a .side) (a .q) (p .0) (p .1) maxSites (p .2),
+      high-small (a .stride) (a .side) (a .q) (p .0) (p .1) maxSites (p .2),
     )
 
 returns : tie.Need-returns

@@ -1,4 +1,4 @@
--- `lattice::sites_of` meets its contract: a quotient of 256 tells whether a product exceeds it.
+-- `lattice::sites_of` meets its contract: a quotient of the most sites tells whether a product exceeds it.
 use mathlib.Core.Path.{sym}
 use native.Mathlib.Nat.{zero-mul, mul-zero}
 use native.Mathlib.Omega.{arith}
@@ -31,11 +31,11 @@ div-if5 c = let a = c .before .before .before .before .args in two-positive (a .
 returns-5 : tie.Need-returns-5
 returns-5 c = let a = c .before .before .before .before .before .args in sym (three-large (a .a) (a .b) (a .c) (omega arith) (omega arith) (omega arith) (c .if5 .taken))
 
-mul-t5 : tie.Need-mul-t5
-mul-t5 c = let a = c .before .before .before .before .before .args in omega (arith, two-fit (a .a) (a .b) (a .c) (omega arith) (omega arith) (omega arith) (c .before .if4 .left))
+mul-t8 : tie.Need-mul-t8
+mul-t8 c = let a = c .before .before .before .before .before .args in omega (arith, two-fit (a .a) (a .b) (a .c) (omega arith) (omega arith) (omega arith) (c .before .if4 .left))
 
-mul-t6 : tie.Need-mul-t6
-mul-t6 c = let a = c .before .before .before .before .before .args in omega (arith, three-fit (a .a) (a .b) (a .c) (omega arith) (omega arith) (omega arith) (c .if5 .left))
+mul-t10 : tie.Need-mul-t10
+mul-t10 c = let a = c .before .before .before .before .before .args in omega (arith, three-fit (a .a) (a .b) (a .c) (omega arith) (omega arith) (omega arith) (c .if5 .left))
 
 returns-6 : tie.Need-returns-6
 returns-6 c = let a = c .before .before .before .before .before .args in sym (sides-fit (a .a) (a .b) (a .c) (omega arith) (omega arith) (omega arith) (c .if5 .left))
@@ -52,6 +52,6 @@ sites-of-spec =
     mul-if5
     div-if5
     returns-5
-    mul-t5
-    mul-t6
+    mul-t8
+    mul-t10
     returns-6)

@@ -11,8 +11,8 @@ use borrow.Author.Needs.{needs}
 use Rattle.pauli_word.specs.Limits.{maxSites}
 use Rattle.permutation.specs.Limits.{maxGenerators}
 use Rattle.permutation.specs.Generators.{permCheck}
-use Rattle.generators.specs.Parts.{outcomeOfVerdict}
-use Rattle.generators.proofs.Verdicts.{refused-broken, refusal-apart, answered-fine, alone}
+use Rattle.outcome.specs.Outcome.{outcomeOfVerdict, alone}
+use Rattle.outcome.proofs.Outcomes.{refused-broken, answered-fine}
 use Rattle.generators.proofs.Reading.{Read, permAt, read-none, generator-fits, generator-room, generator-long, read-broken, read-next, read-all, targets-long}
 use Rattle.generators.proofs.list.fill_targets.Statement.{statement}
 use Rattle.generators.proofs.list.fill_targets.Tie as tie
@@ -97,10 +97,9 @@ returns c =
     let r = l .before .loop .inv .1 in
     let why = c .before .why .given .0 .0 in
     let check = permCheck (s .args .sites) (l .before .loop .g) (permAt (now (s .args .list)) (l .before .loop .at)) in
-    let e = sym (ap outcomeOfVerdict (c .before .why .given .1)) ∙ c .before .before .before .fault .ensures in (
-      e ∙ sym (ap alone (read-broken r (s .pre .1 .0 .1) (l .loop-test .taken) (refused-broken check why e))),
-      λ k. absurd (refusal-apart why k),
-    )
+    let e = sym (ap outcomeOfVerdict (c .before .why .given .1)) ∙ c .before .before .before .fault .ensures in
+    let (first, placed) = read-broken r (s .pre .1 .0 .1) (l .loop-test .taken) (refused-broken check why e) in
+    (e ∙ sym (ap alone first), placed)
 
 enum-told : tie.Need-enum-told Inv-loop μ-loop
 enum-told c = search needs
@@ -172,7 +171,7 @@ returns-2 : tie.Need-returns-2 Inv-loop μ-loop
 returns-2 c =
     let s = c .before .before .before .before in
     let all = read-all (c .before .loop .inv .1) (s .pre .1 .0 .1) (c .loop-test .left) in
-    (sym (ap alone (all .0)), λ k. all .1)
+    (sym (ap alone (all .0)), all .1)
 
 pub fill-targets-spec : {M : Type 1} → statement M
 fill-targets-spec =

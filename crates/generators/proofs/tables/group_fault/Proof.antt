@@ -6,10 +6,9 @@ use native.Mathlib.Omega.{arith}
 use lib.ListN.{take}
 use denote.Ref.{now}
 use borrow.Author.Needs.{needs}
-use Rattle.permutation.specs.Generators.{fine, ordersCheck, pairsCheck, orderOverflow, orderLimit, rowsOf}
-use Rattle.permutation.specs.Parts.{pairCheck}
-use Rattle.generators.specs.Parts.{outcomeOfVerdict}
-use Rattle.generators.proofs.Verdicts.{refused-broken, answered-fine, first-refuses}
+use Rattle.permutation.specs.Generators.{ordersCheck, pairsCheck, orderOverflow, orderLimit, rowsOf}
+use Rattle.outcome.specs.Outcome.{outcomeOfVerdict, outcomeOfNumber}
+use Rattle.outcome.proofs.Outcomes.{refused-broken, answered-fine, first-refuses}
 use Rattle.generators.proofs.Faults.{group-pair, group-beyond, group-large, group-fine}
 use Rattle.generators.proofs.Rows.{row-inside, orders-positive}
 use Rattle.generators.proofs.tables.group_fault.Statement.{statement}
@@ -29,8 +28,11 @@ ordered c =
 commuting :
     (c : tie.After-enum-told2)
     → let a = c .before .before .before .before .before .before .before .before .args in
-    (pairsCheck (a .sites) 0 (rowsOf (a .generators) (a .sites) (now (a .targets))) ≡ fine)
-commuting c = sym (c .before .before .first-pair .ensures) ∙ ap pairCheck (c .enum-told2 .given .1)
+    (pairsCheck (a .sites) 0 (rowsOf (a .generators) (a .sites) (now (a .targets))) .broken ≡ false)
+commuting c =
+    let a = c .before .before .before .before .before .before .before .before .args in
+    answered-fine (pairsCheck (a .sites) 0 (rowsOf (a .generators) (a .sites) (now (a .targets))))
+    (sym (ap outcomeOfVerdict (c .enum-told2 .given .1)) ∙ c .before .before .first-pair .ensures)
 
 orders-fault-requires : tie.Need-orders-fault-requires
 orders-fault-requires c κs = search needs
@@ -56,17 +58,18 @@ first-pair-requires c κs =
     let s = c .before .before .before .before .before in
     ((s .pre .0 .0, s .pre .0 .2, s .pre .0 .3), λ g q h k. row-inside (s .args .sites) (now (s .args .targets)) g (s .pre .1 g h) q k)
 
-enum-known-left : tie.Need-enum-known-left
-enum-known-left c = search needs
+enum-known-why-2 : tie.Need-enum-known-why-2
+enum-known-why-2 c = search needs
 
 returns-2 : tie.Need-returns-2
 returns-2 c =
     let t = c .before .before .before .before in
     let a = t .before .before .before .before .before .args in
-    let pair = c .before .left .given in
-    sym
-    (group-pair (take (a .generators) (now (a .orders))) (a .sites) (rowsOf (a .generators) (a .sites) (now (a .targets))) (ordered t) (pair .0 .0) (pair .0 .1 .0)
-    (sym (c .before .before .before .first-pair .ensures) ∙ ap pairCheck (pair .1)))
+    let why = c .before .why2 .given in
+    let e = sym (ap outcomeOfVerdict (why .1)) ∙ c .before .before .before .first-pair .ensures in
+    e
+    ∙ sym
+    (group-pair (take (a .generators) (now (a .orders))) (a .sites) (rowsOf (a .generators) (a .sites) (now (a .targets))) (ordered t) (why .0 .0) e)
 
 enum-told-2 : tie.Need-enum-told-2
 enum-told-2 c = search needs
@@ -91,8 +94,8 @@ returns-3 c =
     let perms = rowsOf (a .generators) (a .sites) (now (a .targets)) in
     let orders = take (a .generators) (now (a .orders)) in
     sym
-    (group-beyond orders (a .sites) perms (ordered (t .before .before .before)) (commuting t)
-    (sym (c .before .before .group-order .ensures) ∙ c .enum-told3 .given .1))
+    (group-beyond orders (a .sites) perms (ordered (t .before .before .before)) (commuting t) (c .enum-told3 .given .0 .0)
+    (sym (c .before .before .group-order .ensures) ∙ ap outcomeOfNumber (c .enum-told3 .given .1)))
 
 returns-4 : tie.Need-returns-4
 returns-4 c =
@@ -104,7 +107,7 @@ returns-4 c =
     let o = c .before .before .order .given in
     sym
     (group-large orders (a .sites) perms (ordered (t .before .before .before)) (commuting t) (o .0 .0)
-    (sym (c .before .before .before .before .group-order .ensures) ∙ o .1) (c .if1 .taken))
+    (sym (c .before .before .before .before .group-order .ensures) ∙ ap outcomeOfNumber (o .1)) (c .if1 .taken))
 
 returns-5 : tie.Need-returns-5
 returns-5 c =
@@ -116,7 +119,7 @@ returns-5 c =
     let o = c .before .before .order .given in
     sym
     (group-fine orders (a .sites) perms (ordered (t .before .before .before)) (commuting t) (o .0 .0)
-    (sym (c .before .before .before .before .group-order .ensures) ∙ o .1) (c .if1 .left))
+    (sym (c .before .before .before .before .group-order .ensures) ∙ ap outcomeOfNumber (o .1)) (c .if1 .left))
 
 pub group-fault-spec : {M : Type 1} → statement M
 group-fault-spec =
@@ -127,7 +130,7 @@ group-fault-spec =
     returns
     enum-told
     first-pair-requires
-    enum-known-left
+    enum-known-why-2
     returns-2
     enum-told-2
     group-order-requires

@@ -9,9 +9,8 @@ use borrow.Author.Needs.{needs}
 use Rattle.pauli_word.specs.Limits.{maxSites}
 use Rattle.pauli_word.proofs.Words.{rest-part}
 use Rattle.permutation.specs.Generators.{permsCheck, rowsOf}
-use Rattle.generators.specs.Tables.{zeros, answers, restsClear, holdGroup}
-use Rattle.generators.specs.Parts.{outcomeOfVerdict}
-use Rattle.generators.proofs.Verdicts.{refusal-no-answer}
+use Rattle.outcome.specs.Outcome.{answers, outcomeOfVerdict}
+use Rattle.generators.specs.Tables.{zeros, restsClear, holdGroup}
 use Rattle.generators.proofs.Rows.{rows-permute}
 use Rattle.generators.proofs.Holding.{hold-many, hold-broken, hold-refused, hold-unused}
 use Rattle.generators.proofs.tables.hold_group.Statement.{statement}
@@ -79,7 +78,7 @@ returns-3 c =
     let told = c .enum-told2 .given in
     sym
     (hold-refused (a .generators) (a .sites) (now (a .targets)) (now (a .orders)) (e .before .before .if1 .left) (permute e)
-    (ap answers (sym (c .before .before .group-fault .ensures) ∙ ap outcomeOfVerdict (told .1)) ∙ refusal-no-answer (told .0 .0)))
+    (ap answers (sym (c .before .before .group-fault .ensures) ∙ ap outcomeOfVerdict (told .1))))
 
 rests-clear-requires : tie.Need-rests-clear-requires
 rests-clear-requires c κs = search needs

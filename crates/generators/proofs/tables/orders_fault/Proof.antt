@@ -1,14 +1,15 @@
 -- `tables::orders_fault` meets its contract. The loop's invariant: the check of all orders is the check of those from g on.
-use Prim.Native.Nat.{ℕ, _-_, _≤_}
+use Prim.Native.Nat.{_-_, _≤_}
 use mathlib.Core.Path.{_≡_, refl, sym, ap, _∙_}
-use mathlib.Core.List.{List, [], _∷_}
 use native.Mathlib.Omega.{arith}
 use lib.ListN.{getD}
 use denote.Ref.{now}
 use borrow.Author.Needs.{needs}
 use Rattle.permutation.specs.Generators.{broke, orderCheck, rowAt}
 use Rattle.permutation.specs.Parts.{exactOutcome}
-use Rattle.generators.proofs.Verdicts.{alone}
+use Rattle.outcome.specs.declared.Refusal.{Refusal}
+use Rattle.outcome.specs.declared.Refusal.the-variants as Refusal
+use Rattle.outcome.specs.Outcome.{alone, outcomeOfNumber}
 use Rattle.generators.proofs.Faults.{order-zero, order-overflow, order-other, order-same}
 use Rattle.generators.proofs.Rows.{ordersFrom, part-row, orders-none, orders-broken, orders-next}
 use Rattle.generators.proofs.tables.orders_fault.Statement.{statement}
@@ -26,22 +27,22 @@ broken :
     (c : tie.In-loop Inv-loop μ-loop)
     → let g = c .before .loop .g in
     let a = c .before .before .before .before .args in
-    (number : ℕ) (vs : List ℕ) → orderCheck g (rowAt (a .sites) (now (a .targets)) g) (getD (now (a .orders)) g 0) ≡ broke number vs
-    → ordersFrom (a .generators) (a .sites) (now (a .targets)) (now (a .orders)) g ≡ broke number vs
-broken c number vs =
+    (why : Refusal) → orderCheck g (rowAt (a .sites) (now (a .targets)) g) (getD (now (a .orders)) g 0) ≡ broke why
+    → ordersFrom (a .generators) (a .sites) (now (a .targets)) (now (a .orders)) g ≡ broke why
+broken c why =
     let a = c .before .before .before .before .args in
-    orders-broken (a .generators) (a .sites) (now (a .targets)) (now (a .orders)) (omega arith) (c .before .loop .g) (c .loop-test .taken) vs number
+    orders-broken (a .generators) (a .sites) (now (a .targets)) (now (a .orders)) (omega arith) (c .before .loop .g) (c .loop-test .taken) why
 
 -- what exact_order found of generator g
 found :
     (c : tie.After-exact-order Inv-loop μ-loop)
     → let l = c .before .before .before .before .before in
     let a = l .before .before .before .args in
-    (exactOutcome (rowAt (a .sites) (now (a .targets)) (l .loop .g)) ≡ c .exact-order .result)
+    (exactOutcome (l .loop .g) (rowAt (a .sites) (now (a .targets)) (l .loop .g)) ≡ outcomeOfNumber (c .exact-order .result))
 found c =
     let l = c .before .before .before .before .before in
     let a = l .before .before .before .args in
-    sym (c .exact-order .ensures ∙ ap exactOutcome (part-row (a .sites) (now (a .targets)) (l .loop .g)))
+    sym (c .exact-order .ensures ∙ ap (exactOutcome (l .loop .g)) (part-row (a .sites) (now (a .targets)) (l .loop .g)))
 
 loop-holds : tie.Need-loop-holds Inv-loop μ-loop
 loop-holds c = (omega arith, refl)
@@ -51,6 +52,9 @@ mul-declared c = omega arith
 
 shared-slice-read-declared : tie.Need-shared-slice-read-declared Inv-loop μ-loop
 shared-slice-read-declared c = omega arith
+
+cast-declared : tie.Need-cast-declared Inv-loop μ-loop
+cast-declared c = omega (arith, c .shared-slice-known3 .given (c .before .before .loop .g))
 
 returns : tie.Need-returns Inv-loop μ-loop
 returns c =
@@ -62,7 +66,7 @@ returns c =
     sym
     (ap alone
     (l .loop .inv .1
-    ∙ broken (c .before .before) 8 (l .loop .g ∷ []) (order-zero row (l .loop .g) declared (c .if1 .taken))))
+    ∙ broken (c .before .before) (Refusal.ZeroOrder (l .loop .g)) (order-zero row (l .loop .g) declared (c .if1 .taken))))
 
 mul-start : tie.Need-mul-start Inv-loop μ-loop
 mul-start c = omega arith
@@ -107,8 +111,8 @@ returns-2 c =
     sym
     (ap alone
     (l .loop .inv .1
-    ∙ broken (e .before .before) 9 (l .loop .g ∷ [])
-    (order-overflow row (l .loop .g) declared (e .if1 .left) (found (c .before .before) ∙ c .enum-told .given .1))))
+    ∙ broken (e .before .before) (Refusal.PermutationOrderOverflow (l .loop .g))
+    (order-overflow row (l .loop .g) declared (e .if1 .left) (c .enum-told .given .0 .0) (found (c .before .before) ∙ ap outcomeOfNumber (c .enum-told .given .1)))))
 
 returns-3 : tie.Need-returns-3 Inv-loop μ-loop
 returns-3 c =
@@ -122,8 +126,8 @@ returns-3 c =
     sym
     (ap alone
     (l .loop .inv .1
-    ∙ broken (e .before .before) 10 (l .loop .g ∷ declared ∷ exact ∷ [])
-    (order-other row (l .loop .g) declared (e .if1 .left) exact (found (c .before .before .before .before) ∙ c .before .before .exact .given .1) (c .if2 .taken))))
+    ∙ broken (e .before .before) (Refusal.OrderMismatch (l .loop .g) declared exact)
+    (order-other row (l .loop .g) declared (e .if1 .left) exact (found (c .before .before .before .before) ∙ ap outcomeOfNumber (c .before .before .exact .given .1)) (c .if2 .taken))))
 
 add-g : tie.Need-add-g Inv-loop μ-loop
 add-g c = omega arith
@@ -143,7 +147,7 @@ loop-again c =
       omega arith,
       l .loop .inv .1
           ∙ orders-next (a .generators) (a .sites) (now (a .targets)) (now (a .orders)) (omega arith) (l .loop .g) (e .before .before .loop-test .taken)
-          (order-same row (l .loop .g) declared (e .if1 .left) exact (found (c .before .before .before .before) ∙ c .before .before .exact .given .1) (c .if2 .left)),
+          (order-same row (l .loop .g) declared (e .if1 .left) exact (found (c .before .before .before .before) ∙ ap outcomeOfNumber (c .before .before .exact .given .1)) (c .if2 .left)),
     )
 
 returns-4 : tie.Need-returns-4 Inv-loop μ-loop
@@ -161,6 +165,7 @@ orders-fault-spec =
     loop-holds
     mul-declared
     shared-slice-read-declared
+    cast-declared
     returns
     mul-start
     add-end

@@ -1,21 +1,14 @@
 -- `tables::perms_fine` meets its contract. The loop's invariant: the check of all generators is the check of those from g on.
-use Prim.Native.Nat.{ℕ, _-_, _≤_}
+use Prim.Native.Nat.{_-_, _≤_}
 use mathlib.Core.Path.{_≡_, refl, sym, ap, _∙_}
-use mathlib.Core.Bool.{Bool, true, not}
-use mathlib.Core.List.{[], _∷_}
-use mathlib.Core.Logic.{inl, inr}
+use mathlib.Core.Bool.{Bool, not}
 use native.Mathlib.Omega.{arith}
-use types.Run.{OneOf}
-use denote.Enum.Declared.{tagOf}
 use denote.Ref.{now}
 use borrow.Author.Needs.{needs}
-use Rattle.outcome.specs.Outcome.{Check}
-use Rattle.permutation.specs.declared.inner.TargetFault.{TargetFault}
-use Rattle.permutation.specs.declared.inner.TargetFault.the-variants as TargetFault
+use Rattle.outcome.specs.Outcome.{Check, alone, outcomeOfVerdict}
+use Rattle.outcome.proofs.Outcomes.{refused-broken, answered-fine}
 use Rattle.permutation.specs.Generators.{permCheck, rowAt}
-use Rattle.permutation.specs.Parts.{faultCheck}
-use Rattle.permutation.proofs.inner.TargetFault.{the-type}
-use Rattle.generators.proofs.Rows.{permsFrom, row-told, perms-none, perms-broken, perms-next}
+use Rattle.generators.proofs.Rows.{permsFrom, row-check, perms-none, perms-broken, perms-next}
 use Rattle.generators.proofs.tables.perms_fine.Statement.{statement}
 use Rattle.generators.proofs.tables.perms_fine.Tie as tie
 
@@ -25,29 +18,19 @@ Inv-loop targets generators sites g₀ g = (g ≤ generators) × (permsFrom gene
 abbrev μ-loop : tie.MeasureT-loop
 μ-loop targets generators sites g₀ g = generators - g
 
-abbrev broken : Check → Bool
-broken check = check .broken
-
 abbrev unbroken : Check → Bool
 unbroken check = not (check .broken)
 
--- a fault other than the first variant breaks a rule
-tagged : (i : ℕ) (r : TargetFault) → OneOf (1 ∷ 2 ∷ []) (tagOf the-type r) → broken (faultCheck i r) ≡ true
-tagged i TargetFault.Nothing (inl e) = absurd (omega arith)
-tagged i TargetFault.Nothing (inr e) = absurd (omega arith)
-tagged i (TargetFault.OutOfRange t) k = refl
-tagged i (TargetFault.Duplicate t) k = refl
-
--- the check of generator g is what first_fault found
+-- the check of generator g alone is what first_fault found
 found :
     (c : tie.After-first-fault Inv-loop μ-loop)
     → let l = c .before .before .before in
     let a = l .before .before .args in
-    (permCheck (a .sites) (l .loop .g) (rowAt (a .sites) (now (a .targets)) (l .loop .g)) ≡ faultCheck (l .loop .g) (c .first-fault .result))
+    (outcomeOfVerdict (c .first-fault .result) ≡ alone (permCheck (a .sites) (l .loop .g) (rowAt (a .sites) (now (a .targets)) (l .loop .g))))
 found c =
     let l = c .before .before .before in
     let a = l .before .before .args in
-    row-told (a .sites) (now (a .targets)) (l .loop .g) (omega arith) (c .first-fault .result) (c .first-fault .ensures)
+    c .first-fault .ensures ∙ sym (ap alone (row-check (a .sites) (now (a .targets)) (l .loop .g) (omega arith)))
 
 loop-holds : tie.Need-loop-holds Inv-loop μ-loop
 loop-holds c = (omega arith, refl)
@@ -76,17 +59,19 @@ first-fault-requires c κs = c .before .before .before .before .pre .2
 enum-told : tie.Need-enum-told Inv-loop μ-loop
 enum-told c = search needs
 
+enum-told-2 : tie.Need-enum-told-2 Inv-loop μ-loop
+enum-told-2 c = search needs
+
 returns : tie.Need-returns Inv-loop μ-loop
 returns c =
-    let l = c .before .before .before .before in
+    let l = c .before .before .before .before .before in
     let s = l .before .before in
-    let told = found (c .before) in
-    let fault = tagged (l .loop .g) (c .before .first-fault .result) (c .match .keys2) in
+    let check = permCheck (s .args .sites) (l .loop .g) (rowAt (s .args .sites) (now (s .args .targets)) (l .loop .g)) in
+    let fault = refused-broken check (c .enum-told2 .given .0 .0) (sym (ap outcomeOfVerdict (c .enum-told2 .given .1)) ∙ found (c .before .before)) in
     sym
     (ap unbroken
     (l .loop .inv .1
-    ∙ perms-broken (s .args .generators) (s .args .sites) (now (s .args .targets)) (l .loop .g) (c .before .before .before .loop-test .taken) (ap broken told ∙ fault)
-    ∙ told)
+    ∙ perms-broken (s .args .generators) (s .args .sites) (now (s .args .targets)) (l .loop .g) (c .before .before .before .before .loop-test .taken) fault)
     ∙ ap not fault)
 
 add-g : tie.Need-add-g Inv-loop μ-loop
@@ -99,9 +84,10 @@ loop-again : tie.Need-loop-again Inv-loop μ-loop
 loop-again c =
     let l = c .before .before .before .before .before in
     let s = l .before .before in
-    let told = found (c .before .before) ∙ ap (faultCheck (l .loop .g)) (c .enum-told .given .1) in
+    let check = permCheck (s .args .sites) (l .loop .g) (rowAt (s .args .sites) (now (s .args .targets)) (l .loop .g)) in
+    let fine = answered-fine check (sym (ap outcomeOfVerdict (c .enum-told .given .1)) ∙ found (c .before .before)) in
     let more = c .before .before .before .before .loop-test .taken in
-    (omega arith, l .loop .inv .1 ∙ perms-next (s .args .generators) (s .args .sites) (now (s .args .targets)) (l .loop .g) more told)
+    (omega arith, l .loop .inv .1 ∙ perms-next (s .args .generators) (s .args .sites) (now (s .args .targets)) (l .loop .g) more fine)
 
 returns-2 : tie.Need-returns-2 Inv-loop μ-loop
 returns-2 c =
@@ -124,6 +110,7 @@ perms-fine-spec =
     part-first-fault-end
     first-fault-requires
     enum-told
+    enum-told-2
     returns
     add-g
     loop-less

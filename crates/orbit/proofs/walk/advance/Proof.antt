@@ -5,7 +5,7 @@ use native.Mathlib.Nat.{mod-lt}
 use native.Mathlib.Omega.{arith}
 use lib.ListN.{length, drop}
 use Rattle.pauli_word.specs.Limits.{planeLength}
-use Rattle.pauli_word.specs.Bytes.{decode, encode, AcceptedWord}
+use Rattle.pauli_word.specs.Bytes.{AcceptedWord, lettersIn, bytesOf}
 use Rattle.pauli_word.proofs.Words.{encode-length}
 use Rattle.action.specs.Index.{digits}
 use Rattle.action.specs.Orbit.{stepped}

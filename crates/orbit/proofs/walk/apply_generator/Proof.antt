@@ -5,7 +5,7 @@ use native.Mathlib.Omega.{arith}
 use denote.Ref.{now}
 use lib.ListN.{length}
 use Rattle.pauli_word.specs.Limits.{planeLength}
-use Rattle.pauli_word.specs.Bytes.{number, planeOf, decode, encode}
+use Rattle.pauli_word.specs.Bytes.{number, planeOf, encode, lettersIn, bytesOf}
 use Rattle.pauli_word.proofs.Words.{encode-length, encode-blank}
 use Rattle.action.specs.Orbit.{place}
 use Rattle.orbit.proofs.Moves.{placed, placed-next, placed-all}

@@ -3,8 +3,7 @@ use Prim.Native.Nat.{_-_, _≤_}
 use mathlib.Core.Path.{_≡_, refl, sym, ap, _∙_}
 use native.Mathlib.Omega.{arith}
 use denote.Ref.{now}
-use Rattle.pauli_word.specs.Limits.{planeLength}
-use Rattle.pauli_word.specs.Bytes.{decode, encode, AcceptedWord}
+use Rattle.pauli_word.specs.Bytes.{AcceptedWord, lettersIn, bytesOf}
 use Rattle.pauli_word.proofs.Words.{decode-length}
 use Rattle.action.specs.Orbit.{reach, firstAt}
 use Rattle.orbit.specs.Tables.{generatorsIn}

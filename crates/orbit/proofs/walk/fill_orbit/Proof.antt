@@ -4,8 +4,8 @@ use mathlib.Core.Path.{_≡_, refl, sym, ap, _∙_}
 use native.Mathlib.Omega.{arith}
 use denote.Ref.{now}
 use lib.ListN.{length}
-use Rattle.pauli_word.specs.Limits.{planeLength, wordLength}
-use Rattle.pauli_word.specs.Bytes.{decode, encode, AcceptedWord}
+use Rattle.pauli_word.specs.Limits.{wordLength}
+use Rattle.pauli_word.specs.Bytes.{AcceptedWord, lettersIn, bytesOf}
 use Rattle.pauli_word.proofs.Words.{decode-length}
 use Rattle.action.specs.Orbit.{reach}
 use Rattle.orbit.specs.Tables.{generatorsIn}
@@ -73,7 +73,7 @@ part-copy-end c = omega (arith, list-length (c .before .before), c .before .loop
 copy-requires-2 : tie.Need-copy-requires-2 Inv-loop μ-loop
 copy-requires-2 c κs =
     let l = c .before .before .before .loop in
-    here-accepted (c .before .before .before) .long ∙ sym (part-length (l .list) (l .i) (omega (arith, list-length (c .before .before .before), c .before .before .loop-test .taken)))
+    here-accepted (c .before .before .before) .long ∙ sym (part-length wordLength (l .i) (l .list) (omega (arith, list-length (c .before .before .before), c .before .before .loop-test .taken)))
 
 slice-aggregate-advance : tie.Need-slice-aggregate-advance Inv-loop μ-loop
 slice-aggregate-advance c = sym (here-accepted (c .before .before .before .before .before .before .before) .long)

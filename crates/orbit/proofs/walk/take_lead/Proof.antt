@@ -9,8 +9,8 @@ use Rattle.orbit.proofs.Leads.{less-taken, less-left}
 use Rattle.orbit.proofs.walk.take_lead.Statement.{statement}
 use Rattle.orbit.proofs.walk.take_lead.Tie as tie
 
-compare-requires : tie.Need-compare-requires
-compare-requires c κs = search needs
+compare-bytes-requires : tie.Need-compare-bytes-requires
+compare-bytes-requires c κs = search needs
 
 enum-told : tie.Need-enum-told
 enum-told c = search needs
@@ -23,7 +23,7 @@ returns c =
     let s = c .before .before .before .before .before in
     let a = s .args in
     let stays =
-    less-left (s .pre .0) (s .pre .1) (c .before .compare .ensures) (λ e. ⊎-elim (λ z. omega arith) (λ z. omega arith) (rw e at (c .match .keys2)))
+    less-left (s .pre .0) (s .pre .1) (c .before .compare-bytes .ensures) (λ e. ⊎-elim (λ z. omega arith) (λ z. omega arith) (rw e at (c .match .keys2)))
     in
     (sym (ap (λ (b : Bool). cond b (a .i) (a .index)) stays), sym (ap (λ (b : Bool). cond b (now (a .here)) (now (a .best))) stays))
 
@@ -38,7 +38,7 @@ returns-2 c =
     let s = c .before .before .before .before .before .before .before .before .before .before in
     let a = s .args in
     let takes =
-    less-taken (s .pre .0) (s .pre .1) (c .before .before .before .before .before .before .compare .ensures)
+    less-taken (s .pre .0) (s .pre .1) (c .before .before .before .before .before .before .compare-bytes .ensures)
     (c .before .before .before .before .enum-told .given .1)
     in (
       sym (ap (λ (b : Bool). cond b (a .i) (a .index)) takes),
@@ -48,4 +48,4 @@ returns-2 c =
 pub take-lead-spec : {M : Type 1} → statement M
 take-lead-spec =
     tie.close
-    (tie.spec compare-requires enum-told same-length returns copy-requires same-length-2 returns-2)
+    (tie.spec compare-bytes-requires enum-told same-length returns copy-requires same-length-2 returns-2)
