@@ -1,7 +1,8 @@
--- The four lattices are valid generators: their shifts permute the sites, have the sides as their exact orders, and commute.
+-- The shifts along the axes of a lattice are valid generators: they permute the sites, have the sides as their exact orders, and commute
+-- (`shifts-valid`). The four named lattices are cases of it.
 -- What carries it: a site is l + stride c + stride side h with l < stride and c < side, and l, c and h can be read off it (`site-low`, `site-place`,
 -- `site-high`), so that a shift turns c into (c + 1) mod side and leaves l and h.
-use Prim.Native.Nat.{ℕ, zero, suc, _+_, _*_, _/_, _%_, _<_}
+use Prim.Native.Nat.{ℕ, zero, suc, _+_, _*_, _/_, _%_, _<_, _∣_}
 use mathlib.Core.Path.{_≡_, refl, sym, _∙_, ap}
 use mathlib.Core.Logic.{inl, inr}
 use mathlib.Core.List.{List, [], _∷_, map}
@@ -10,27 +11,32 @@ use native.Mathlib.Nat.{
   add-zero,
   div-div-eq-div-mul,
   div-lt-iff-lt-mul,
-  div-one,
   dvd-antisymm,
+  dvd-mul-left,
+  dvd-mul-right,
   dvd-of-mod-eq-zero,
+  dvd-refl,
+  dvd-trans,
   le-of-suc-le-suc,
   mod-add-div,
   mod-add-mod,
   mod-lt,
   mod-mod,
-  mod-one,
+  mul-div-cancel',
   mul-pos,
-  one-mul,
+  pos-of-dvd-of-pos,
   zero-add,
   zero-div,
   zero-mod,
 }
 use native.Mathlib.Omega.{arith}
 use lib.Arith.{digits-lt, digits-div, digits-mod}
-use lib.ListN.{getD, length-map}
+use lib.ListN.{length, getD, length-map}
+use Rattle.action.specs.Arithmetic.{product}
 use Rattle.action.specs.Lists.{from, below, Member}
 use Rattle.action.specs.Permutation.{Generator, target, after, exactOrder, Permutes, Commute, Valid}
-use Rattle.action.specs.Lattice.{shifted, shift, chain, ladder, torus2, torus3}
+use Rattle.action.specs.Index.{orderOf}
+use Rattle.action.specs.Lattice.{shifted, shift, shifts, chain, ladder, torus2, torus3}
 use Rattle.action.proofs.Lists.{length-below}
 use Rattle.action.proofs.Order.{order-divides, order-returns}
 
@@ -45,18 +51,6 @@ getD-map-from f (suc n) a (suc q) h = getD-map-from f n (suc a) q (le-of-suc-le-
 pub target-shift : (n stride side q : ℕ) → q < n → target (shift n stride side .perm) q ≡ shifted stride side q
 unfolding shift below
 target-shift n stride side q h = getD-map-from (shifted stride side) n 0 q h ∙ ap (shifted stride side) (zero-add q)
-
--- where a shift sends a site, in the words of the code
-
-pub shifted-axis :
-    (stride side q : ℕ)
-    → shifted stride side q ≡ q / (stride * side) * (stride * side) + (q / stride % side + 1) % side * stride + q % stride
-unfolding shifted
-shifted-axis stride side q = omega arith
-
-pub shifted-x : (side q : ℕ) → shifted 1 side q ≡ q / side * side + (q % side + 1) % side
-unfolding shifted
-shifted-x side q = simp (mod-one, div-one, one-mul) (omega arith)
 
 -- the coordinates of a site
 
@@ -92,27 +86,17 @@ module _ (s a : ℕ) where
 -- whole rounds
 record Axis (n stride side : ℕ) : Type 0 where
   sites-positive : 0 < n
-  stride-positive : 0 < stride
-  side-positive : 0 < side
-  rounds : ℕ
-  whole : n ≡ stride * side * rounds
+  whole : stride * side ∣ n
 
 -- the last axis: all sites are one round
 axis-last : {s a : ℕ} → 0 < s → 0 < a → Axis (s * a) s a
-axis-last p r = record { sites-positive = mul-pos p r; stride-positive = p; side-positive = r; rounds = 1; whole = omega arith }
-
--- the first axis: the places of a row of a sites
-axis-first : {a : ℕ} → 0 < a → Axis a 1 a
-axis-first {a} r = rw one-mul at (axis-last {s = 1} {a = a} (omega arith) r)
+axis-last {s} {a} p r = record { sites-positive = mul-pos p r; whole = dvd-refl (s * a) }
 
 -- an axis of the sites in front of another axis is an axis of all sites
 axis-within : {n s a t b : ℕ} → Axis t s a → Axis n t b → Axis n s a
 axis-within {n} {s} {a} {t} {b} x y = record {
   sites-positive = y .sites-positive;
-  stride-positive = x .stride-positive;
-  side-positive = x .side-positive;
-  rounds = x .rounds * b * y .rounds;
-  whole = omega (arith, y .whole, ap (λ (z : ℕ). z * b * y .rounds) (x .whole));
+  whole = dvd-trans (s * a) (x .whole) (dvd-trans t (dvd-mul-right t b) (y .whole));
 }
 
 -- two sites that the same number of applications brings back are equal if their targets are
@@ -123,21 +107,34 @@ returns-apart perm zero p q h u v e = absurd (omega arith)
 returns-apart perm (suc c) p q h u v e = sym u ∙ ap (after perm c) e ∙ v
 
 module _ {n s a : ℕ} (x : Axis n s a) where
+  stride-positive : 0 < s
+  stride-positive = pos-of-dvd-of-pos (dvd-trans s (dvd-mul-right s a) (x .whole)) (x .sites-positive)
+
+  side-positive : 0 < a
+  side-positive = pos-of-dvd-of-pos (dvd-trans a (dvd-mul-left a s) (x .whole)) (x .sites-positive)
+
+  rounds : ℕ
+  rounds = n / (s * a)
+
+  all-rounds : s * a * rounds ≡ n
+  unfolding rounds
+  all-rounds = mul-div-cancel' (s * a) (x .whole)
+
   shifted-below : (q : ℕ) → q < n → shifted s a q < n
   unfolding shifted
   shifted-below q h =
-      omega (arith, x .whole, digits-lt high (digits-lt (mod-lt (q / s % a + 1) (x .side-positive)) (mod-lt q (x .stride-positive))))
+      omega (arith, all-rounds, digits-lt high (digits-lt (mod-lt (q / s % a + 1) side-positive) (mod-lt q stride-positive)))
     where
-      high : q / (s * a) < x .rounds
-      high = div-lt-iff-lt-mul (mul-pos (x .stride-positive) (x .side-positive)) .1 (omega (arith, x .whole))
+      high : q / (s * a) < rounds
+      high = div-lt-iff-lt-mul (mul-pos stride-positive side-positive) .1 (omega (arith, all-rounds))
 
   -- a shift of n sites does not touch what stands behind them
   shifted-add : (q y : ℕ) → shifted s a (q + n * y) ≡ shifted s a q + n * y
   unfolding shifted
   shifted-add q y =
-      let rounds : n * y ≡ s * a * x .rounds * y = ap (λ (z : ℕ). z * y) (x .whole) in
+      let behind : s * a * rounds * y ≡ n * y = ap (λ (z : ℕ). z * y) all-rounds in
       ap (shifted s a) (omega (arith, site-of s a q))
-      ∙ shifted-site s a (q % s) (q / s % a) (q / (s * a) + x .rounds * y) (mod-lt q (x .stride-positive)) (mod-lt (q / s) (x .side-positive))
+      ∙ shifted-site s a (q % s) (q / s % a) (q / (s * a) + rounds * y) (mod-lt q stride-positive) (mod-lt (q / s) side-positive)
       ∙ omega arith
 
   -- c applications add c to the place
@@ -160,10 +157,10 @@ module _ {n s a : ℕ} (x : Axis n s a) where
       k = q / (s * a)
 
       low : l < s
-      low = mod-lt q (x .stride-positive)
+      low = mod-lt q stride-positive
 
       place : i < a
-      place = mod-lt (q / s % a + 1) (x .side-positive)
+      place = mod-lt (q / s % a + 1) side-positive
 
   shift-returns : (q : ℕ) → q < n → after (shift n s a .perm) a q ≡ q
   shift-returns q h = after-shift a q h ∙ rw (add-mod-right, mod-mod) (site-of s a q)
@@ -172,7 +169,7 @@ module _ {n s a : ℕ} (x : Axis n s a) where
   shift-permutes = record {
     long = unfold shift in length-map (below n) (shifted s a) ∙ length-below n;
     inside = λ q h. rw (target-shift n s a q h) (shifted-below q h);
-    apart = λ p q h k e. returns-apart (shift n s a .perm) a p q (x .side-positive) (shift-returns p h) (shift-returns q k) e;
+    apart = λ p q h k e. returns-apart (shift n s a .perm) a p q side-positive (shift-returns p h) (shift-returns q k) e;
   }
 
   -- the exact order's applications bring site 0 from place 0 to the place exactOrder mod side, and they bring it back
@@ -185,7 +182,7 @@ module _ {n s a : ℕ} (x : Axis n s a) where
       back : e % a ≡ 0
       back =
           simp (zero-div, zero-mod, zero-add) at
-          (sym (site-place s a (0 % s) ((0 / s % a + e) % a) (0 / (s * a)) (mod-lt 0 (x .stride-positive)) (mod-lt (0 / s % a + e) (x .side-positive)))
+          (sym (site-place s a (0 % s) ((0 / s % a + e) % a) (0 / (s * a)) (mod-lt 0 stride-positive) (mod-lt (0 / s % a + e) side-positive))
           ∙ ap (λ (z : ℕ). z / s % a) (sym (after-shift e 0 (x .sites-positive)) ∙ order-returns shift-permutes 0 (x .sites-positive)))
 
 -- the shift along an axis in front of another moves q % t, which the other leaves, and leaves q / t, which the other moves
@@ -195,7 +192,7 @@ shifted-commute {n} {s} {a} {t} {b} x y q =
     ap (shifted s a) (omega arith)
     ∙ shifted-add x l (d + b * h)
     ∙ omega arith
-    ∙ sym (shifted-site t b (shifted s a l) c h (shifted-below x l (mod-lt q (y .stride-positive))) (mod-lt (q / t) (y .side-positive)))
+    ∙ sym (shifted-site t b (shifted s a l) c h (shifted-below x l (mod-lt q (stride-positive y))) (mod-lt (q / t) (side-positive y)))
     ∙ ap (shifted t b) (omega (arith, shifted-add x l (c + b * h), ap (shifted s a) whole))
   where
     l : ℕ
@@ -223,29 +220,17 @@ shift-commute {n} {s} {a} {t} {b} x y q h =
     )
     (shifted-commute x y q)
 
--- the lattices
+-- any list of axes
 
 valid-nil : (n : ℕ) → Valid n []
 valid-nil n = record { permutes = λ g m. absurd m; exact = λ g m. absurd m; commute = λ g h m k. absurd m }
 
--- f commutes with each generator
-abbrev CommutesWith : ℕ → List ℕ → List Generator → Type 0
-CommutesWith n f [] = Unit {0}
-CommutesWith n f (g ∷ gs) = Commute n f (g .perm) × CommutesWith n f gs
-
-commutes-with : (n : ℕ) (f : List ℕ) (gs : List Generator) → CommutesWith n f gs → (g : Generator) → Member g gs → Commute n f (g .perm)
-commutes-with n f [] r g m = absurd m
-commutes-with n f (h ∷ gs) r g (inl e) = rw e (r .0)
-commutes-with n f (h ∷ gs) r g (inr m) = commutes-with n f gs (r .1) g m
-
 -- one more axis, whose shift commutes with the others
 shift-cons :
-    {n s a : ℕ} {gs : List Generator} → Axis n s a → CommutesWith n (shift n s a .perm) gs → Valid n gs → Valid n (shift n s a ∷ gs)
-shift-cons {n} {s} {a} {gs} x r v = record { permutes = permutes; exact = exact; commute = commute }
+    {n s a : ℕ} {gs : List Generator} → Axis n s a → ((g : Generator) → Member g gs → Commute n (shift n s a .perm) (g .perm)) → Valid n gs
+    → Valid n (shift n s a ∷ gs)
+shift-cons {n} {s} {a} {gs} x along v = record { permutes = permutes; exact = exact; commute = commute }
   where
-    along : (h : Generator) → Member h gs → Commute n (shift n s a .perm) (h .perm)
-    along = commutes-with n (shift n s a .perm) gs r
-
     permutes : (g : Generator) → Member g (shift n s a ∷ gs) → Permutes n (g .perm)
     permutes g (inl e) = rw e (shift-permutes x)
     permutes g (inr m) = v .permutes g m
@@ -260,27 +245,63 @@ shift-cons {n} {s} {a} {gs} x r v = record { permutes = permutes; exact = exact;
     commute g h (inr m) (inl f) = rw f (λ q l. sym (along g m q l))
     commute g h (inr m) (inr k) = v .commute g h m k
 
+-- n sites that are `rounds` times what some axes span
+module _ {n : ℕ} (some : 0 < n) where
+  -- the first of the axes, and those behind it
+  axis-first : (s a : ℕ) (sides : List ℕ) (rounds : ℕ) → s * product (a ∷ sides) * rounds ≡ n → Axis n s a
+  unfolding product
+  axis-first s a sides rounds e =
+      let whole : s * a * (product sides * rounds) ≡ n = omega arith in
+      record { sites-positive = some; whole = rw (← whole) (dvd-mul-right (s * a) (product sides * rounds)) }
+
+  sides-behind : (s a : ℕ) (sides : List ℕ) (rounds : ℕ) → s * product (a ∷ sides) * rounds ≡ n → s * a * product sides * rounds ≡ n
+  unfolding product
+  sides-behind s a sides rounds e = omega arith
+
+  -- the shift along an axis commutes with the shifts along those behind it
+  shifts-commute :
+      {s a t : ℕ} → Axis t s a → (sides : List ℕ) (rounds : ℕ) → t * product sides * rounds ≡ n → (g : Generator) → Member g (shifts n t sides)
+      → Commute n (shift n s a .perm) (g .perm)
+  unfolding shifts
+  shifts-commute x [] rounds e g m = absurd m
+  shifts-commute {t = t} x (b ∷ sides) rounds e g (inl i) = rw i (shift-commute x (axis-first t b sides rounds e))
+  shifts-commute {t = t} x (b ∷ sides) rounds e g (inr m) =
+      let y = axis-first t b sides rounds e in
+      shifts-commute (axis-within x (axis-last (stride-positive y) (side-positive y))) sides rounds (sides-behind t b sides rounds e) g m
+
+  pub shifts-valid : (stride : ℕ) (sides : List ℕ) (rounds : ℕ) → stride * product sides * rounds ≡ n → Valid n (shifts n stride sides)
+  unfolding shifts
+  shifts-valid s [] rounds e = valid-nil n
+  shifts-valid s (a ∷ sides) rounds e =
+      let x = axis-first s a sides rounds e in
+      let behind = sides-behind s a sides rounds e in
+      shift-cons x (shifts-commute (axis-last (stride-positive x) (side-positive x)) sides rounds behind) (shifts-valid (s * a) sides rounds behind)
+
+-- the group order is the product of the sides
+pub shifts-order : (n stride : ℕ) (sides : List ℕ) → orderOf (shifts n stride sides) ≡ product sides
+unfolding shifts orderOf product
+shifts-order n s [] = refl
+shifts-order n s (a ∷ sides) = ap (λ (k : ℕ). a * k) (shifts-order n (s * a) sides)
+
+pub shifts-length : (n stride : ℕ) (sides : List ℕ) → length (shifts n stride sides) ≡ length sides
+unfolding shifts
+shifts-length n s [] = refl
+shifts-length n s (a ∷ sides) = ap suc (shifts-length n (s * a) sides)
+
+-- the four lattices
+
 pub chain-valid : (n : ℕ) → 0 < n → Valid n (chain n)
-unfolding chain
-chain-valid n p = shift-cons (axis-first p) tt (valid-nil n)
+unfolding chain product
+chain-valid n p = shifts-valid p 1 (n ∷ []) 1 (omega arith)
 
 pub ladder-valid : (l legs : ℕ) → 0 < l → 0 < legs → Valid (l * legs) (ladder l legs)
-unfolding ladder
-ladder-valid l legs p r = shift-cons (axis-within (axis-first p) (axis-last p r)) tt (valid-nil (l * legs))
+unfolding ladder product
+ladder-valid l legs p r = shifts-valid (mul-pos p r) 1 (l ∷ []) legs (omega arith)
 
 pub torus2-valid : (lx ly : ℕ) → 0 < lx → 0 < ly → Valid (lx * ly) (torus2 lx ly)
-unfolding torus2
-torus2-valid lx ly p r =
-    let x : Axis lx 1 lx = axis-first p in
-    let y : Axis (lx * ly) lx ly = axis-last p r in
-    shift-cons (axis-within x y) (shift-commute x y, tt) (shift-cons y tt (valid-nil (lx * ly)))
+unfolding torus2 product
+torus2-valid lx ly p r = shifts-valid (mul-pos p r) 1 (lx ∷ ly ∷ []) 1 (omega arith)
 
 pub torus3-valid : (lx ly lz : ℕ) → 0 < lx → 0 < ly → 0 < lz → Valid (lx * ly * lz) (torus3 lx ly lz)
-unfolding torus3
-torus3-valid lx ly lz p r u =
-    let x : Axis lx 1 lx = axis-first p in
-    let y : Axis (lx * ly) lx ly = axis-last p r in
-    let z : Axis (lx * ly * lz) (lx * ly) lz = axis-last (mul-pos p r) u in
-    let yz : Axis (lx * ly * lz) lx ly = axis-within y z in
-    shift-cons (axis-within x yz) (shift-commute x yz, (shift-commute (axis-within x y) z, tt))
-    (shift-cons yz (shift-commute y z, tt) (shift-cons z tt (valid-nil (lx * ly * lz))))
+unfolding torus3 product
+torus3-valid lx ly lz p r u = shifts-valid (mul-pos (mul-pos p r) u) 1 (lx ∷ ly ∷ lz ∷ []) 1 (omega arith)

@@ -1,6 +1,11 @@
--- The greatest common divisor and the least common multiple. proofs/Arithmetic.antt shows that they are what their names say.
+-- Products, the greatest common divisor and the least common multiple. proofs/Arithmetic.antt shows that the last two are what their names say.
 use Prim.Native.Nat.{ℕ, zero, suc, _+_, _*_, _/_, _%_}
 use mathlib.Core.List.{List, [], _∷_}
+
+-- the product of a list, 1 where it is empty
+unfoldable pub product : List ℕ → ℕ
+product [] = 1
+product (k ∷ ks) = k * product ks
 
 -- Euclid's algorithm; the first argument bounds its steps
 unfoldable pub gcdFuel : ℕ → ℕ → ℕ → ℕ
