@@ -34,7 +34,7 @@ use lib.Arith.{digits-lt, digits-div, digits-mod}
 use lib.ListN.{length, getD, length-map}
 use Rattle.action.specs.Arithmetic.{product}
 use Rattle.action.specs.Lists.{from, below, Member}
-use Rattle.action.specs.Permutation.{Generator, target, after, exactOrder, Permutes, Commute, Valid}
+use Rattle.action.specs.Permutation.{Generator, target, sends, after, exactOrder, Permutes, Commute, Valid}
 use Rattle.action.specs.Index.{orderOf}
 use Rattle.action.specs.Lattice.{shifted, shift, shifts, chain, ladder, torus2, torus3}
 use Rattle.action.proofs.Lists.{length-below}
@@ -305,3 +305,50 @@ torus2-valid lx ly p r = shifts-valid (mul-pos p r) 1 (lx ∷ ly ∷ []) 1 (omeg
 pub torus3-valid : (lx ly lz : ℕ) → 0 < lx → 0 < ly → 0 < lz → Valid (lx * ly * lz) (torus3 lx ly lz)
 unfolding torus3 product
 torus3-valid lx ly lz p r u = shifts-valid (mul-pos (mul-pos p r) u) 1 (lx ∷ ly ∷ lz ∷ []) 1 (omega arith)
+
+-- the shift along an axis moves the site at place c to place c + 1, round at the end, and leaves what is in front of the axis and behind it
+module _ (n s a l c h : ℕ) (low : l < s) (place : c < a) where
+  shift-site : (q : ℕ) → q < n → q ≡ site s a l c h → target (shift n s a .perm) q ≡ site s a l ((c + 1) % a) h
+  shift-site q r e = target-shift n s a q r ∙ ap (shifted s a) e ∙ shifted-site s a l c h low place
+
+pub chain-sends : (n j : ℕ) → j < n → sends (chain n) 0 j ≡ (j + 1) % n
+unfolding chain sends
+chain-sends n j p = shift-site n 1 n 0 j 0 (omega arith) p j p (omega arith) ∙ omega arith
+
+pub ladder-sends : (l legs j leg : ℕ) → j < l → leg < legs → sends (ladder l legs) 0 (leg * l + j) ≡ leg * l + (j + 1) % l
+unfolding ladder sends
+ladder-sends l legs j leg p r =
+    shift-site (l * legs) 1 l 0 j leg (omega arith) p (leg * l + j) (omega (arith, digits-lt r p)) (omega arith) ∙ omega arith
+
+module _ (lx ly i j : ℕ) (p : i < lx) (r : j < ly) where
+  torus2-inside : j * lx + i < lx * ly
+  torus2-inside = omega (arith, digits-lt r p)
+
+  pub torus2-sends-x : sends (torus2 lx ly) 0 (j * lx + i) ≡ j * lx + (i + 1) % lx
+  unfolding torus2 sends
+  torus2-sends-x = shift-site (lx * ly) 1 lx 0 i j (omega arith) p (j * lx + i) torus2-inside (omega arith) ∙ omega arith
+
+  pub torus2-sends-y : sends (torus2 lx ly) 1 (j * lx + i) ≡ (j + 1) % ly * lx + i
+  unfolding torus2 sends
+  torus2-sends-y = shift-site (lx * ly) (1 * lx) ly i j 0 (omega arith) r (j * lx + i) torus2-inside (omega arith) ∙ omega arith
+
+module _ (lx ly lz i j k : ℕ) (p : i < lx) (r : j < ly) (u : k < lz) where
+  torus3-inside : k * lx * ly + j * lx + i < lx * ly * lz
+  torus3-inside = omega (arith, digits-lt u (digits-lt r p))
+
+  pub torus3-sends-x : sends (torus3 lx ly lz) 0 (k * lx * ly + j * lx + i) ≡ k * lx * ly + j * lx + (i + 1) % lx
+  unfolding torus3 sends
+  torus3-sends-x =
+      shift-site (lx * ly * lz) 1 lx 0 i (k * ly + j) (omega arith) p (k * lx * ly + j * lx + i) torus3-inside (omega arith) ∙ omega arith
+
+  pub torus3-sends-y : sends (torus3 lx ly lz) 1 (k * lx * ly + j * lx + i) ≡ k * lx * ly + (j + 1) % ly * lx + i
+  unfolding torus3 sends
+  torus3-sends-y =
+      shift-site (lx * ly * lz) (1 * lx) ly i j k (omega arith) r (k * lx * ly + j * lx + i) torus3-inside (omega arith) ∙ omega arith
+
+  pub torus3-sends-z : sends (torus3 lx ly lz) 2 (k * lx * ly + j * lx + i) ≡ (k + 1) % lz * lx * ly + j * lx + i
+  unfolding torus3 sends
+  torus3-sends-z =
+      shift-site (lx * ly * lz) (1 * lx * ly) lz (j * lx + i) k 0 (omega (arith, digits-lt r p)) u (k * lx * ly + j * lx + i) torus3-inside
+      (omega arith)
+      ∙ omega arith

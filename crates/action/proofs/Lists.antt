@@ -8,6 +8,7 @@ use mathlib.Core.Logic.{_⊎_, inl, inr, ⊎-elim}
 use mathlib.Core.Bool.{Bool, true, false, cond, and-eq-true-iff}
 use mathlib.Core.List.{List, [], _∷_, _++_, map, head-eq-of-cons-eq, tail-eq-of-cons-eq}
 use lib.ListN.{length, length-map}
+use Rattle.action.specs.Arithmetic.{product}
 use Rattle.action.specs.Lists.{from, below, Member, select, count, every, total, prefixed, choices, NoRepeats}
 
 -- tests that hold together are the same
@@ -293,11 +294,6 @@ pub count-bijection :
     → ((b : B) → Member b ys → q b ≡ true → Member (g b) xs × (p (g b) ≡ true) × (f (g b) ≡ b))
     → count p xs ≡ count q ys
 count-bijection xs ys p q f g u v h k = le-antisymm (count-le xs ys p q f g u h) (count-le ys xs q p g f v k)
-
--- the product of the numbers of a list
-unfoldable pub product : List ℕ → ℕ
-product [] = 1
-product (n ∷ ns) = n * product ns
 
 module _ {A : Type 0} where
   -- t has the length of cs, and each member of t is a member of the choice at its place

@@ -12,12 +12,13 @@ use lib.IntN.{ℤ, pos}
 use lib.ListN.{length, replicate}
 use Rattle.pauli_word.specs.Word.{Letter, I, X, Y, Z, Word, sameLetter, same}
 use Rattle.pauli_word.proofs.Order.{same-refl, same-eq}
+use Rattle.action.specs.Arithmetic.{product}
 use Rattle.action.specs.Lists.{below, Member, count, NoRepeats}
 use Rattle.action.specs.Permutation.{Generator, Valid}
 use Rattle.action.specs.Orbit.{isIn, orbit, least, isRepresentative}
 use Rattle.action.specs.Sector.{keeps}
 use Rattle.action.specs.Count.{allWords, allModes, representatives, keptLists, keptPairs}
-use Rattle.action.proofs.Lists.{Chosen, product, noRepeats-below, of-member-map, noRepeats-map, member-select, of-member-select, noRepeats-select, member-choices, of-member-choices, noRepeats-choices, length-choices, total-cong, total-const, total-count-swap, count-true, count-pos, count-bijection}
+use Rattle.action.proofs.Lists.{Chosen, noRepeats-below, of-member-map, noRepeats-map, member-select, of-member-select, noRepeats-select, member-choices, of-member-choices, noRepeats-choices, length-choices, total-cong, total-const, total-count-swap, count-true, count-pos, count-bijection}
 use Rattle.action.proofs.Canonical.{isIn-intro, isIn-elim, orbit-length, least-length, least-same, least-representative, orbit-of-least}
 use Rattle.action.proofs.Stabilizer.{count-one, orbit-noRepeats}
 use Rattle.action.proofs.Kept.{kept-lists}

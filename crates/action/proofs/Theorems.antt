@@ -1,6 +1,6 @@
 -- What is proved of the definitions, to be read without the proofs: each statement is followed by the law that shows it.
 --
--- 1 Orders, 2 Indices, 3 Canonical, 4 Stabilizer, 5 Characters, 6 Kept lists, 7 Pairs. Throughout, gs are valid generators of n sites
+-- 1 Orders, 2 Indices, 3 Canonical, 4 Stabilizer, 5 Characters, 6 Kept lists, 7 Pairs, 8 Lattices. Throughout, gs are valid generators of n sites
 -- (`Valid n gs`: each permutes the sites, every two commute, and each order is exact), and n and the number of generators are any.
 use Prim.Native.Nat.{ℕ, suc, _+_, _*_, _^_, _%_, _<_, _≤_}
 use mathlib.Core.Path.{_≡_, _∙_}
@@ -10,8 +10,10 @@ use mathlib.Core.List.{List}
 use lib.IntN.{ℤ}
 use lib.ListN.{length}
 use Rattle.pauli_word.specs.Word.{Word, less}
+use Rattle.action.specs.Arithmetic.{product}
 use Rattle.action.specs.Lists.{Member, NoRepeats}
-use Rattle.action.specs.Permutation.{Generator, after, exactOrder, Permutes, Valid}
+use Rattle.action.specs.Permutation.{Generator, sends, after, exactOrder, Permutes, Valid}
+use Rattle.action.specs.Lattice.{shifts, chain, ladder, torus2, torus3}
 use Rattle.action.specs.Index.{orderOf, digits, Digits, index, addDigits, add, inverse}
 use Rattle.action.specs.Orbit.{reach, stepped, orbit, isIn, least, forward, indexBack, fixes, fixing, orbitSize}
 use Rattle.action.specs.Sector.{modulus, numerator, reducedModes, reducedDigits, Modes, Character, keeps}
@@ -24,6 +26,7 @@ use Rattle.action.proofs.Stabilizer as Stabilizer
 use Rattle.action.proofs.Characters as Characters
 use Rattle.action.proofs.Kept as Kept
 use Rattle.action.proofs.Pairs as Pairs
+use Rattle.action.proofs.Lattice as Lattice
 
 -- ---- 1 Orders: the exact order, the least common multiple of the cycle lengths, is the least positive number of applications that
 -- moves every site back
@@ -207,3 +210,54 @@ module _ {n : ℕ} {gs : List Generator} (valid : Valid n gs) where
 
   pub modes-once : NoRepeats (allModes gs)
   modes-once = Pairs.modes-noRepeats gs
+
+-- ---- 8 Lattices: shifts along any axes are valid generators if the sites are a number of rounds of them, and their group order is the
+-- product of the sides. Of the four lattices, where each generator sends the site with given coordinates
+
+pub shifts-valid : (n stride : ℕ) (sides : List ℕ) (rounds : ℕ) → 0 < n → stride * product sides * rounds ≡ n → Valid n (shifts n stride sides)
+shifts-valid n stride sides rounds some = Lattice.shifts-valid some stride sides rounds
+
+pub shifts-order : (n stride : ℕ) (sides : List ℕ) → orderOf (shifts n stride sides) ≡ product sides
+shifts-order = Lattice.shifts-order
+
+-- one generator for each axis
+pub shifts-length : (n stride : ℕ) (sides : List ℕ) → length (shifts n stride sides) ≡ length sides
+shifts-length = Lattice.shifts-length
+
+pub chain-valid : (n : ℕ) → 0 < n → Valid n (chain n)
+chain-valid = Lattice.chain-valid
+
+pub ladder-valid : (l legs : ℕ) → 0 < l → 0 < legs → Valid (l * legs) (ladder l legs)
+ladder-valid = Lattice.ladder-valid
+
+pub torus2-valid : (lx ly : ℕ) → 0 < lx → 0 < ly → Valid (lx * ly) (torus2 lx ly)
+torus2-valid = Lattice.torus2-valid
+
+pub torus3-valid : (lx ly lz : ℕ) → 0 < lx → 0 < ly → 0 < lz → Valid (lx * ly * lz) (torus3 lx ly lz)
+torus3-valid = Lattice.torus3-valid
+
+-- a site of a chain moves on by one, the last to site 0
+pub chain-sends : (n j : ℕ) → j < n → sends (chain n) 0 j ≡ (j + 1) % n
+chain-sends = Lattice.chain-sends
+
+-- a site of a ladder moves on by one along its leg
+pub ladder-sends : (l legs j leg : ℕ) → j < l → leg < legs → sends (ladder l legs) 0 (leg * l + j) ≡ leg * l + (j + 1) % l
+ladder-sends = Lattice.ladder-sends
+
+-- generator 0 of a torus moves on the first coordinate alone, generator 1 the second, generator 2 the third
+module _ (lx ly i j : ℕ) (x : i < lx) (y : j < ly) where
+  pub torus2-sends-x : sends (torus2 lx ly) 0 (j * lx + i) ≡ j * lx + (i + 1) % lx
+  torus2-sends-x = Lattice.torus2-sends-x lx ly i j x y
+
+  pub torus2-sends-y : sends (torus2 lx ly) 1 (j * lx + i) ≡ (j + 1) % ly * lx + i
+  torus2-sends-y = Lattice.torus2-sends-y lx ly i j x y
+
+module _ (lx ly lz i j k : ℕ) (x : i < lx) (y : j < ly) (z : k < lz) where
+  pub torus3-sends-x : sends (torus3 lx ly lz) 0 (k * lx * ly + j * lx + i) ≡ k * lx * ly + j * lx + (i + 1) % lx
+  torus3-sends-x = Lattice.torus3-sends-x lx ly lz i j k x y z
+
+  pub torus3-sends-y : sends (torus3 lx ly lz) 1 (k * lx * ly + j * lx + i) ≡ k * lx * ly + (j + 1) % ly * lx + i
+  torus3-sends-y = Lattice.torus3-sends-y lx ly lz i j k x y z
+
+  pub torus3-sends-z : sends (torus3 lx ly lz) 2 (k * lx * ly + j * lx + i) ≡ (k + 1) % lz * lx * ly + j * lx + i
+  torus3-sends-z = Lattice.torus3-sends-z lx ly lz i j k x y z

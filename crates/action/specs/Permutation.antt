@@ -17,6 +17,12 @@ pub record Generator : Type 0 where
 abbrev pub target : List ℕ → ℕ → ℕ
 target perm q = getD perm q 0
 
+-- where generator g of a list sends site q; a site stays where the list has no such generator
+unfoldable pub sends : List Generator → ℕ → ℕ → ℕ
+sends [] g q = q
+sends (x ∷ gs) zero q = target (x .perm) q
+sends (x ∷ gs) (suc g) q = sends gs g q
+
 -- where c applications send site q
 unfoldable pub after : List ℕ → ℕ → ℕ → ℕ
 after perm zero q = q
