@@ -1,24 +1,27 @@
 -- What is proved of the definitions, to be read without the proofs: each statement is followed by the law that shows it.
 --
--- 1 Orders, 2 Indices, 3 Canonical, 4 Stabilizer, 5 Characters, 6 Kept lists, 7 Pairs, 8 Lattices. Throughout, gs are valid generators of n sites
--- (`Valid n gs`: each permutes the sites, every two commute, and each order is exact), and n and the number of generators are any.
+-- 1 Words, 2 Permutations, 3 Indices, 4 Canonical, 5 Stabilizer, 6 Characters, 7 Kept lists, 8 Pairs, 9 Lattices. From 3 to 8, gs are valid
+-- generators of n sites (`Valid n gs`: each permutes the sites, every two commute, and each order is exact), and n and the number of generators
+-- are any.
 use Prim.Native.Nat.{ℕ, suc, _+_, _*_, _^_, _%_, _<_, _≤_}
 use mathlib.Core.Path.{_≡_, _∙_}
-use mathlib.Core.Logic.{_↔_}
+use mathlib.Core.Logic.{_⊎_, _↔_}
 use mathlib.Core.Bool.{Bool, true, false}
 use mathlib.Core.List.{List}
 use lib.IntN.{ℤ}
-use lib.ListN.{length}
-use Rattle.pauli_word.specs.Word.{Word, less}
+use lib.ListN.{length, getD}
+use Rattle.pauli_word.specs.Word.{I, Word, bits, same, less}
+use Rattle.pauli_word.proofs.Order as WordOrder
 use Rattle.action.specs.Arithmetic.{product}
 use Rattle.action.specs.Lists.{Member, NoRepeats}
-use Rattle.action.specs.Permutation.{Generator, sends, after, exactOrder, Permutes, Valid}
+use Rattle.action.specs.Permutation.{Generator, target, sends, after, exactOrder, Permutes, Valid}
 use Rattle.action.specs.Lattice.{shifts, chain, ladder, torus2, torus3}
 use Rattle.action.specs.Index.{orderOf, digits, Digits, index, addDigits, add, inverse}
-use Rattle.action.specs.Orbit.{reach, stepped, orbit, isIn, least, forward, indexBack, fixes, fixing, orbitSize}
+use Rattle.action.specs.Orbit.{move, reach, stepped, orbit, isIn, least, forward, indexBack, fixes, fixing, orbitSize}
 use Rattle.action.specs.Sector.{modulus, numerator, reducedModes, reducedDigits, Modes, Character, keeps}
 use Rattle.action.specs.Count.{allWords, allModes, keptLists, keptPairs}
 use Rattle.action.proofs.Order as Order
+use Rattle.action.proofs.Move as Move
 use Rattle.action.proofs.Index as Index
 use Rattle.action.proofs.Reach as Reach
 use Rattle.action.proofs.Canonical as Canonical
@@ -28,8 +31,26 @@ use Rattle.action.proofs.Kept as Kept
 use Rattle.action.proofs.Pairs as Pairs
 use Rattle.action.proofs.Lattice as Lattice
 
--- ---- 1 Orders: the exact order, the least common multiple of the cycle lengths, is the least positive number of applications that
--- moves every site back
+-- ---- 1 Words: the order of words of one length is strict and total, and `same` is equality
+
+pub less-irrefl : (w : Word) → less w w ≡ false
+less-irrefl = WordOrder.less-irrefl
+
+pub less-trans : (u v w : Word) → less u v ≡ true → less v w ≡ true → less u w ≡ true
+less-trans = WordOrder.less-trans
+
+pub less-total : (v w : Word) → length v ≡ length w → (less v w ≡ true) ⊎ ((v ≡ w) ⊎ (less w v ≡ true))
+less-total = WordOrder.less-total
+
+pub same-equal : (v w : Word) → (same v w ≡ true) ↔ (v ≡ w)
+same-equal v w = (WordOrder.same-eq v w, λ e. rw e (WordOrder.same-refl w))
+
+-- the bits determine a word, its length given
+pub bits-injective : (v w : Word) → length v ≡ length w → bits v ≡ bits w → v ≡ w
+bits-injective = WordOrder.bits-injective
+
+-- ---- 2 Permutations: a move takes each letter to its site's target. The exact order, the least common multiple of the cycle lengths, is the
+-- least positive number of applications that moves every site back
 
 module _ {n : ℕ} {perm : List ℕ} (permutes : Permutes n perm) where
   pub order-returns : (q : ℕ) → q < n → after perm (exactOrder perm) q ≡ q
@@ -41,8 +62,13 @@ module _ {n : ℕ} {perm : List ℕ} (permutes : Permutes n perm) where
   pub order-least : (k : ℕ) → 0 < k → ((q : ℕ) → q < n → after perm k q ≡ q) → exactOrder perm ≤ k
   order-least = Order.order-least permutes
 
+  -- the letter of site q is found at the target of q
+  pub move-at : (w : Word) → length w ≡ n → (q : ℕ) → q < n → getD (move perm w) (target perm q) I ≡ getD w q I
+  move-at = Move.move-at permutes
+
 module _ {n : ℕ} {gs : List Generator} (valid : Valid n gs) where
-  -- ---- 2 Indices: digits and index are inverse; adding indices is composing what they do; the walk
+  -- ---- 3 Indices: digits and index are inverse; the indices below the order are an abelian group; adding indices is composing what they do;
+  -- the walk
 
   pub index-digits : (i : ℕ) → i < orderOf gs → index gs (digits gs i) ≡ i
   index-digits = Index.index-digits gs (Index.valid-positive valid)
@@ -55,6 +81,25 @@ module _ {n : ℕ} {gs : List Generator} (valid : Valid n gs) where
 
   pub digits-add : (i j : ℕ) → digits gs (add gs i j) ≡ addDigits gs (digits gs i) (digits gs j)
   digits-add = Index.digits-add gs (Index.valid-positive valid)
+
+  -- the group: `add` is its sum, 0 its neutral index, `inverse` its inverse
+  pub add-below : (i j : ℕ) → add gs i j < orderOf gs
+  add-below = Index.add-below gs (Index.valid-positive valid)
+
+  pub add-comm : (i j : ℕ) → add gs i j ≡ add gs j i
+  add-comm = Index.add-comm gs
+
+  pub add-assoc : (i j k : ℕ) → add gs (add gs i j) k ≡ add gs i (add gs j k)
+  add-assoc = Index.add-assoc gs (Index.valid-positive valid)
+
+  pub add-zero : (i : ℕ) → i < orderOf gs → add gs i 0 ≡ i
+  add-zero = Index.add-zero gs (Index.valid-positive valid)
+
+  pub add-inverse : (i : ℕ) → add gs i (inverse gs i) ≡ 0
+  add-inverse = Index.add-inverse gs (Index.valid-positive valid)
+
+  pub inverse-below : (i : ℕ) → inverse gs i < orderOf gs
+  inverse-below = Index.inverse-below gs (Index.valid-positive valid)
 
   -- reaching by i and then by j is reaching by their sum
   pub reach-add : (i j : ℕ) (w : Word) → length w ≡ n → reach gs (add gs i j) w ≡ reach gs j (reach gs i w)
@@ -75,7 +120,7 @@ module _ {n : ℕ} {gs : List Generator} (valid : Valid n gs) where
   reach-order = Reach.reach-order valid
 
   module _ (w : Word) (long : length w ≡ n) where
-    -- ---- 3 Canonical: the orbit is what the indices reach; the least word, and the index that leads back from it
+    -- ---- 4 Canonical: the orbit is what the indices reach; the least word, and the index that leads back from it
 
     pub orbit-reached : (i : ℕ) → i < orderOf gs → isIn (reach gs i w) (orbit gs w) ≡ true
     orbit-reached = Canonical.orbit-intro gs w
@@ -120,7 +165,7 @@ module _ {n : ℕ} {gs : List Generator} (valid : Valid n gs) where
     pub orbit-by-least : (u : Word) → length u ≡ n → (least gs u ≡ least gs w) ↔ (isIn u (orbit gs w) ≡ true)
     orbit-by-least u e = (Canonical.orbit-of-least valid w long u e, Canonical.least-same valid w long u)
 
-    -- ---- 4 Stabilizer: the fixing indices are a subgroup, and the order is the number of different orbit words times theirs
+    -- ---- 5 Stabilizer: the fixing indices are a subgroup, and the order is the number of different orbit words times theirs
 
     pub fixes-zero : fixes gs w 0 ≡ true
     fixes-zero = Stabilizer.fixes-zero gs w
@@ -144,21 +189,7 @@ module _ {n : ℕ} {gs : List Generator} (valid : Valid n gs) where
     pub nothing-left-over : orderOf gs % length (fixing gs w) ≡ 0
     nothing-left-over = Stabilizer.fixing-divides valid w long
 
-    -- ---- 6 Kept lists: of all mode lists, exactly as many keep the word as its orbit has different words; by any test that agrees with
-    -- `keeps`, and so by `keeps`
-
-    pub kept-lists : (kept : List ℤ → Word → Bool) → ((ks : List ℤ) → Member ks (allModes gs) → kept ks w ≡ keeps gs ks w)
-        → keptLists kept gs w ≡ length (orbit gs w)
-    kept-lists = Kept.kept-lists valid w long
-
-    pub keeps-lists : keptLists (keeps gs) gs w ≡ length (orbit gs w)
-    keeps-lists = Kept.kept-lists valid w long (keeps gs) (λ ks m i. keeps gs ks w)
-
-    -- keeping is the same for all words of an orbit
-    pub keeps-orbit : (ks : List ℤ) (u : Word) → isIn u (orbit gs w) ≡ true → keeps gs ks u ≡ keeps gs ks w
-    keeps-orbit = Kept.keeps-orbit valid w long
-
-  -- ---- 5 Characters: the numerator turns sums of indices into sums modulo the phase modulus, and the mode lists are all the characters
+  -- ---- 6 Characters: the numerator turns sums of indices into sums modulo the phase modulus, and the mode lists are all the characters
 
   pub numerator-counters : (ks : List ℤ) (cs ds : List ℕ) → length cs ≡ length gs → length ds ≡ length gs
       → numerator gs ks (addDigits gs cs ds) ≡ (numerator gs ks cs + numerator gs ks ds) % modulus gs
@@ -188,7 +219,22 @@ module _ {n : ℕ} {gs : List Generator} (valid : Valid n gs) where
       → ((i : ℕ) → i < orderOf gs → numerator gs ks (digits gs i) ≡ numerator gs ls (digits gs i)) → ks ≡ ls
   modes-unique = Characters.modes-unique gs (Index.valid-positive valid)
 
-  -- ---- 7 Pairs: nothing is lost. There are 4 ^ n pairs of a representative and a mode list that keeps it; by any test that agrees with
+  module _ (w : Word) (long : length w ≡ n) where
+    -- ---- 7 Kept lists: of all mode lists, exactly as many keep the word as its orbit has different words; by any test that agrees with
+    -- `keeps`, and so by `keeps`
+
+    pub kept-lists : (kept : List ℤ → Word → Bool) → ((ks : List ℤ) → Member ks (allModes gs) → kept ks w ≡ keeps gs ks w)
+        → keptLists kept gs w ≡ length (orbit gs w)
+    kept-lists = Kept.kept-lists valid w long
+
+    pub keeps-lists : keptLists (keeps gs) gs w ≡ length (orbit gs w)
+    keeps-lists = Kept.kept-lists valid w long (keeps gs) (λ ks m i. keeps gs ks w)
+
+    -- keeping is the same for all words of an orbit
+    pub keeps-orbit : (ks : List ℤ) (u : Word) → isIn u (orbit gs w) ≡ true → keeps gs ks u ≡ keeps gs ks w
+    keeps-orbit = Kept.keeps-orbit valid w long
+
+  -- ---- 8 Pairs: nothing is lost. There are 4 ^ n pairs of a representative and a mode list that keeps it; by any test that agrees with
   -- `keeps`, and so by `keeps`. All words of n letters and all reduced mode lists are listed, once each
 
   pub kept-pairs : (kept : List ℤ → Word → Bool)
@@ -211,7 +257,7 @@ module _ {n : ℕ} {gs : List Generator} (valid : Valid n gs) where
   pub modes-once : NoRepeats (allModes gs)
   modes-once = Pairs.modes-noRepeats gs
 
--- ---- 8 Lattices: shifts along any axes are valid generators if the sites are a number of rounds of them, and their group order is the
+-- ---- 9 Lattices: shifts along any axes are valid generators if the sites are a number of rounds of them, and their group order is the
 -- product of the sides. Of the four lattices, where each generator sends the site with given coordinates
 
 pub shifts-valid : (n stride : ℕ) (sides : List ℕ) (rounds : ℕ) → 0 < n → stride * product sides * rounds ≡ n → Valid n (shifts n stride sides)

@@ -101,7 +101,8 @@ bits-long : (w : Word) → length (bits w) ≡ length w + length w
 unfolding bits
 bits-long w = length-append (map xBit w) (map zBit w) ∙ ap₂ _+_ (length-map w xBit) (length-map w zBit)
 
-bits-injective : (v w : Word) → length v ≡ length w → bits v ≡ bits w → v ≡ w
+-- the bits determine a word, its length given
+pub bits-injective : (v w : Word) → length v ≡ length w → bits v ≡ bits w → v ≡ w
 unfolding bits
 bits-injective v w l e =
     sym (lettersOf-bits v)
