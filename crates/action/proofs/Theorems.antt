@@ -10,8 +10,9 @@ use mathlib.Core.Bool.{Bool, true, false}
 use mathlib.Core.List.{List}
 use lib.IntN.{ℤ}
 use lib.ListN.{length, getD}
-use Rattle.pauli_word.specs.Word.{I, Word, bits, same, less}
+use Rattle.pauli_word.specs.Word.{I, Word, bits, ones, same, less, weight}
 use Rattle.pauli_word.proofs.Order as WordOrder
+use Rattle.pauli_word.proofs.Ones as Ones
 use Rattle.action.specs.Arithmetic.{product}
 use Rattle.action.specs.Lists.{Member, NoRepeats}
 use Rattle.action.specs.Permutation.{Generator, target, sends, after, exactOrder, Permutes, Valid}
@@ -31,7 +32,7 @@ use Rattle.action.proofs.Kept as Kept
 use Rattle.action.proofs.Pairs as Pairs
 use Rattle.action.proofs.Lattice as Lattice
 
--- ---- 1 Words: the order of words of one length is strict and total, and `same` is equality
+-- ---- 1 Words: the order of words of one length is strict and total, `same` is equality, and the weight counts ones
 
 pub less-irrefl : (w : Word) → less w w ≡ false
 less-irrefl = WordOrder.less-irrefl
@@ -48,6 +49,10 @@ same-equal v w = (WordOrder.same-eq v w, λ e. rw e (WordOrder.same-refl w))
 -- the bits determine a word, its length given
 pub bits-injective : (v w : Word) → length v ≡ length w → bits v ≡ bits w → v ≡ w
 bits-injective = WordOrder.bits-injective
+
+-- the weight is the number of ones of both planes: a Y counts two
+pub weight-ones : (w : Word) → weight w ≡ ones (bits w)
+weight-ones = Ones.weight-ones
 
 -- ---- 2 Permutations: a move takes each letter to its site's target. The exact order, the least common multiple of the cycle lengths, is the
 -- least positive number of applications that moves every site back

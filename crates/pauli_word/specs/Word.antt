@@ -33,6 +33,16 @@ letterOf true true = Y
 unfoldable pub bits : Word → List Bool
 bits w = map xBit w ++ map zBit w
 
+-- 1 for a set bit
+abbrev pub bit : Bool → ℕ
+bit false = 0
+bit true = 1
+
+-- how many bits are set
+unfoldable pub ones : List Bool → ℕ
+ones [] = 0
+ones (b ∷ bs) = bit b + ones bs
+
 -- whether two bits are the same
 abbrev pub sameBit : Bool → Bool → Bool
 sameBit true b = b
@@ -61,11 +71,6 @@ lessBits (true ∷ xs) (true ∷ bs) = lessBits xs bs
 unfoldable pub less : Word → Word → Bool
 unfolding lessBits bits
 less v w = lessBits (bits v) (bits w)
-
--- 1 for a set bit
-abbrev pub bit : Bool → ℕ
-bit false = 0
-bit true = 1
 
 -- the ones among a letter's two bits: a Y counts two
 abbrev pub letterWeight : Letter → ℕ
