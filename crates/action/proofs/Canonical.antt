@@ -15,7 +15,7 @@ use Rattle.pauli_word.proofs.Order.{same-refl, same-eq, less-irrefl, less-trans
 use Rattle.action.specs.Lists.{from, below, Member, NoRepeats}
 use Rattle.action.specs.Permutation.{Generator, Valid}
 use Rattle.action.specs.Index.{orderOf, add, inverse}
-use Rattle.action.specs.Orbit.{reach, orbitList, isIn, once, orbit, leastOf, least, firstAt, forward, indexBack, isRepresentative}
+use Rattle.action.specs.Orbit.{reach, orbitList, isIn, once, orbit, leastOf, least, firstAt, forward, indexBack}
 use Rattle.action.proofs.Lists.{member-below, of-member-below, member-map, of-member-map}
 use Rattle.action.proofs.Index.{valid-positive, order-of-positive, add-below, inverse-below}
 use Rattle.action.proofs.Reach.{reach-length, reach-zero, reach-add, reach-inverse}
@@ -280,10 +280,6 @@ module _ {n : ℕ} {gs : List Generator} (v : Valid n gs) (w : Word) (e : length
 
   pub least-own : least gs (least gs w) ≡ least gs w
   least-own = least-same (least gs w) (least-in-orbit v w)
-
-  pub least-representative : isRepresentative gs (least gs w) ≡ true
-  unfolding isRepresentative
-  least-representative = rw least-own (same-refl (least gs w))
 
   pub orbit-of-least : (u : Word) → length u ≡ n → least gs u ≡ least gs w → isIn u (orbit gs w) ≡ true
   orbit-of-least u l k =

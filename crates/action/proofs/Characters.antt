@@ -1,7 +1,7 @@
 -- The mode lists are the characters of the group: the numerators of a mode list are a character, every character is the numerators of one mode
 -- list in reduced form, and two of those differ at some index. What carries it: modes and digits pair symmetrically (`phases-swap`), and the
 -- first generator's unit, the digits 1, 0, 0, .., reads off the first mode (`phases-unit`).
-use Prim.Native.Nat.{ℕ, zero, suc, _+_, _-_, _*_, _/_, _%_, _<_}
+use Prim.Native.Nat.{ℕ, zero, suc, _+_, _-_, _*_, _/_, _%_, _<_, _∣_}
 use native.Mathlib.Nat.{
   add-mod,
   add-mod-mod,
@@ -21,7 +21,10 @@ use native.Mathlib.Nat.{
   mul-lt-mul-of-pos-right,
   mul-mod-right,
   mul-one,
+  mul-suc,
+  suc-inj,
   suc-mul,
+  suc-ne-zero,
   zero-mod,
   zero-mul,
 }
@@ -37,7 +40,7 @@ use Rattle.action.specs.Permutation.{Generator}
 use Rattle.action.specs.Index.{orderOf, digits, index, addDigits, add, Digits}
 use Rattle.action.specs.Sector.{modulus, reduced, phases, numerator, reducedModes, reducedDigits, Modes, Character}
 use Rattle.action.specs.Count.{allModes}
-use Rattle.action.proofs.Arithmetic.{lcmAll-member, lcmAll-positive}
+use Rattle.action.proofs.Arithmetic.{lcmAll-member, lcmAll-divides, lcmAll-positive}
 use Rattle.action.proofs.Lists.{Chosen, member-below, of-member-below, member-map, of-member-map, member-choices, of-member-choices}
 use Rattle.action.proofs.Index.{Positive, order-of-positive, digits-proper, index-below, index-digits, digits-index, addDigits-comm, addDigits-zero, digits-add, digits-length, index-add}
 use Rattle.action.proofs.Annihilators.{Divides, divides-positive, cofactor, turn, pos-of-mul, phases-cons-zero, phases-zeros, phases-add}
@@ -53,11 +56,18 @@ positive-member [] p g k = absurd k
 positive-member (f ∷ gs) p g (inl e) = rw e (p .0)
 positive-member (f ∷ gs) p g (inr k) = positive-member gs (p .1) g k
 
-pub modulus-divides : (gs : List Generator) → Positive gs → Divides (modulus gs) gs
+-- the modulus is a multiple of each order, and every common multiple is one of it
+pub modulus-multiple : (gs : List Generator) (g : Generator) → Member g gs → g .order ∣ modulus gs
 unfolding modulus
-modulus-divides gs p =
-    divides-intro (modulus gs) gs p
-    (λ g k. mod-eq-zero-of-dvd (g .order) (lcmAll-member (g .order) (map (λ f. f .order) gs) (member-map (λ f. f .order) gs g k)))
+modulus-multiple gs g k = lcmAll-member (g .order) (map (λ f. f .order) gs) (member-map (λ f. f .order) gs g k)
+
+pub modulus-least : (gs : List Generator) (m : ℕ) → ((g : Generator) → Member g gs → g .order ∣ m) → modulus gs ∣ m
+unfolding modulus
+modulus-least gs m h =
+    lcmAll-divides (map (λ f. f .order) gs) m (λ a k. let (g, l, e) = of-member-map (λ f. f .order) gs a k in rw e (h g l))
+
+pub modulus-divides : (gs : List Generator) → Positive gs → Divides (modulus gs) gs
+modulus-divides gs p = divides-intro (modulus gs) gs p (λ g k. mod-eq-zero-of-dvd (g .order) (modulus-multiple gs g k))
 
 pub modulus-positive : (gs : List Generator) → Positive gs → 0 < modulus gs
 unfolding modulus
@@ -82,6 +92,19 @@ numerator-index-add gs p ks i j = ap (numerator gs ks) (digits-add gs p i j) ∙
   where
     long : (i : ℕ) → length (digits gs i) ≡ length gs
     long i = digits-length gs (digits gs i) (digits-proper gs p i)
+
+-- a reduced mode is below the order, and differs from the mode by a multiple of it
+pub reduced-below : (o : ℕ) (k : ℤ) → 0 < o → reduced o k < o
+unfolding reduced
+reduced-below o (pos k) h = mod-lt k h
+reduced-below o (negsuc k) h = omega arith
+
+pub reduced-negative : (o k : ℕ) → 0 < o → (reduced o (negsuc k) + suc k) % o ≡ 0
+unfolding reduced
+reduced-negative o k h = rw whole (mul-mod-right o (suc (k / o)))
+  where
+    whole : o - 1 - k % o + suc k ≡ o * suc (k / o)
+    whole = omega (arith, mod-lt k h, mod-add-div k o, mul-suc o (k / o))
 
 reduced-again : (o : ℕ) (k : ℤ) → reduced o k % o ≡ reduced o k
 unfolding reduced
@@ -135,6 +158,17 @@ unfolding allModes
 modes-reduced gs ks =
     let cs : List (List ℤ) = map (λ g. map pos (below (g .order))) gs in
     (λ h. chosen-modes gs ks (of-member-choices cs ks h), λ h. member-choices cs ks (modes-chosen gs ks h))
+
+-- every mode list, reduced, is one of all mode lists
+pub reduced-modes : (gs : List Generator) → Positive gs → (ks : List ℤ) → length ks ≡ length gs → Member (reducedModes gs ks) (allModes gs)
+unfolding reducedModes
+reduced-modes gs p ks e = modes-reduced gs (reducedModes gs ks) .1 (proper gs p ks e)
+  where
+    proper : (gs : List Generator) → Positive gs → (ks : List ℤ) → length ks ≡ length gs → Modes gs (reducedModes gs ks)
+    proper [] p [] e = tt
+    proper [] p (k ∷ ks) e = absurd (suc-ne-zero (length ks) e)
+    proper (g ∷ gs) p [] e = absurd (suc-ne-zero (length gs) (sym e))
+    proper (g ∷ gs) p (k ∷ ks) e = (reduced-below (g .order) k (p .0), proper gs (p .1) ks (suc-inj e))
 
 modes-of-digits : (gs : List Generator) (cs : List ℕ) → Digits gs cs → Modes gs (map pos cs)
 modes-of-digits [] [] h = tt

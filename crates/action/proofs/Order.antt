@@ -2,10 +2,10 @@
 -- applications that does so is a multiple of it. What carries it: of the n + 1 sites that a site reaches in 0 to n applications two are equal,
 -- so that a site comes back within n applications and the search of its cycle length is long enough.
 use Prim.Native.Nat.{ℕ, zero, suc, _+_, _-_, _*_, _/_, _%_, _≤_, _<_, _∣_, suc-le-suc, zero-le}
-use mathlib.Core.Path.{_≡_, refl, ap}
+use mathlib.Core.Path.{_≡_, refl}
 use mathlib.Core.Logic.{_≢_, _⊎_, inl, inr, ⊎-elim, ite}
 use mathlib.Core.Bool.{Bool, true, false, cond}
-use mathlib.Core.List.{List, _∷_, map}
+use mathlib.Core.List.{List, map}
 use native.Mathlib.Nat.{
   zero-add,
   suc-add,

@@ -5,7 +5,7 @@ use Prim.Native.Nat.{ℕ, zero, suc, _*_, _^_}
 use native.Mathlib.Nat.{mul-one, pow-succ', suc-inj, suc-ne-zero}
 use native.Mathlib.Omega.{arith}
 use mathlib.Core.Path.{_≡_, refl, sym, _∙_, ap}
-use mathlib.Core.Logic.{inl, inr}
+use mathlib.Core.Logic.{_↔_, inl, inr}
 use mathlib.Core.Bool.{Bool, true}
 use mathlib.Core.List.{List, [], _∷_, map}
 use lib.IntN.{ℤ, pos}
@@ -19,7 +19,7 @@ use Rattle.action.specs.Orbit.{isIn, orbit, least, isRepresentative}
 use Rattle.action.specs.Sector.{keeps}
 use Rattle.action.specs.Count.{allWords, allModes, representatives, keptLists, keptPairs}
 use Rattle.action.proofs.Lists.{Chosen, noRepeats-below, of-member-map, noRepeats-map, member-select, of-member-select, noRepeats-select, member-choices, of-member-choices, noRepeats-choices, length-choices, total-cong, total-const, total-count-swap, count-true, count-pos, count-bijection}
-use Rattle.action.proofs.Canonical.{isIn-intro, isIn-elim, orbit-length, least-length, least-same, least-representative, orbit-of-least}
+use Rattle.action.proofs.Canonical.{isIn-intro, isIn-elim, orbit-length, least-length, least-same, least-own, orbit-of-least}
 use Rattle.action.proofs.Stabilizer.{count-one, orbit-noRepeats}
 use Rattle.action.proofs.Kept.{kept-lists}
 
@@ -93,18 +93,25 @@ modes-noRepeats gs = noRepeats-choices (map (λ g. map pos (below (g .order))) g
 
 -- the representatives
 
-module _ {n : ℕ} {gs : List Generator} (v : Valid n gs) where
-  of-member-representatives : (r : Word) → Member r (representatives gs n) → (length r ≡ n) × (least gs r ≡ r)
-  unfolding representatives isRepresentative
-  of-member-representatives r m =
-      let (k, e) = of-member-select (isRepresentative gs) (allWords n) r m in
-      (words-long n r k, same-eq (least gs r) r e)
+pub representatives-all : (gs : List Generator) (n : ℕ) (r : Word) → Member r (representatives gs n) ↔ ((length r ≡ n) × (least gs r ≡ r))
+unfolding representatives isRepresentative
+representatives-all gs n r = (there, back)
+  where
+    there : Member r (representatives gs n) → (length r ≡ n) × (least gs r ≡ r)
+    there m = let (k, e) = of-member-select (isRepresentative gs) (allWords n) r m in (words-long n r k, same-eq (least gs r) r e)
 
+    back : (length r ≡ n) × (least gs r ≡ r) → Member r (representatives gs n)
+    back h = member-select (isRepresentative gs) (allWords n) r (words-all n r (h .0)) (ap (λ (u : Word). same u r) (h .1) ∙ same-refl r)
+
+pub representatives-noRepeats : (gs : List Generator) (n : ℕ) → NoRepeats (representatives gs n)
+unfolding representatives
+representatives-noRepeats gs n = noRepeats-select (isRepresentative gs) (allWords n) (words-noRepeats n)
+
+module _ {n : ℕ} {gs : List Generator} (v : Valid n gs) where
   least-listed : (w : Word) → Member w (allWords n) → Member (least gs w) (representatives gs n)
-  unfolding representatives
   least-listed w m =
       let e : length w ≡ n = words-long n w m in
-      member-select (isRepresentative gs) (allWords n) (least gs w) (words-all n (least gs w) (least-length v w ∙ e)) (least-representative v w e)
+      representatives-all gs n (least gs w) .1 (least-length v w ∙ e, least-own v w e)
 
   -- the orbit of a representative is the words that have it as their least word
   orbit-count : (r : Word) → Member r (representatives gs n) → length (orbit gs r) ≡ count (λ w. same (least gs w) r) (allWords n)
@@ -114,10 +121,10 @@ module _ {n : ℕ} {gs : List Generator} (v : Valid n gs) where
       (words-noRepeats n) there back
     where
       long : length r ≡ n
-      long = of-member-representatives r m .0
+      long = representatives-all gs n r .0 m .0
 
       own : least gs r ≡ r
-      own = of-member-representatives r m .1
+      own = representatives-all gs n r .0 m .1
 
       there : (u : Word) → Member u (orbit gs r) → true ≡ true → Member u (allWords n) × (same (least gs u) r ≡ true) × (u ≡ u)
       there u k t =
@@ -138,15 +145,12 @@ module _ {n : ℕ} {gs : List Generator} (v : Valid n gs) where
       total-cong (keptLists kept gs) (λ r. count (λ w. same (least gs w) r) (allWords n)) (representatives gs n) each
       ∙ total-count-swap (λ r w. same (least gs w) r) (representatives gs n) (allWords n)
       ∙ total-cong (λ w. count (same (least gs w)) (representatives gs n)) (λ w. 1) (allWords n)
-      (λ w m. count-one (least gs w) (representatives gs n) once (least-listed w m))
+      (λ w m. count-one (least gs w) (representatives gs n) (representatives-noRepeats gs n) (least-listed w m))
       ∙ total-const 1 (allWords n)
       ∙ mul-one (length (allWords n))
       ∙ words-count n
     where
       each : (r : Word) → Member r (representatives gs n) → keptLists kept gs r ≡ count (λ w. same (least gs w) r) (allWords n)
       each r m =
-          let long : length r ≡ n = of-member-representatives r m .0 in
+          let long : length r ≡ n = representatives-all gs n r .0 m .0 in
           kept-lists v r long kept (λ ks k. h r ks long k) ∙ orbit-count r m
-
-      once : NoRepeats (representatives gs n)
-      once = noRepeats-select (isRepresentative gs) (allWords n) (words-noRepeats n)

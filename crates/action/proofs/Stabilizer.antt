@@ -3,7 +3,7 @@
 -- word of the orbit is reached equally often.
 use Prim.Native.Nat.{ℕ, _+_, _*_, _%_, _<_}
 use mathlib.Core.Path.{_≡_, refl, sym, _∙_, ap}
-use mathlib.Core.Logic.{inl, inr}
+use mathlib.Core.Logic.{_↔_, inl, inr}
 use mathlib.Core.Bool.{Bool, true, false, cond, false≢true}
 use mathlib.Core.List.{List, [], _∷_}
 use native.Mathlib.Nat.{div-eq-of-eq-mul-left, mul-mod-left, mul-one, zero-lt-suc}
@@ -15,7 +15,7 @@ use Rattle.action.specs.Lists.{below, Member, count, NoRepeats}
 use Rattle.action.specs.Permutation.{Generator, Valid}
 use Rattle.action.specs.Index.{orderOf, add, inverse}
 use Rattle.action.specs.Orbit.{reach, orbitList, isIn, orbit, fixes, fixing, orbitSize}
-use Rattle.action.proofs.Lists.{member-below, of-member-below, noRepeats-below, length-below, member-select, total-cong, total-const, total-count-swap, count-select, count-bijection, bool-ext}
+use Rattle.action.proofs.Lists.{member-below, of-member-below, noRepeats-below, length-below, member-select, of-member-select, noRepeats-select, total-cong, total-const, total-count-swap, count-select, count-bijection, bool-ext}
 use Rattle.action.proofs.Index.{valid-positive, order-of-positive, add-below, add-undo, add-redo}
 use Rattle.action.proofs.Reach.{reach-zero, reach-add, reach-comm, reach-inverse}
 use Rattle.action.proofs.Canonical.{isIn-intro, isIn-elim, noRepeats-once, orbit-intro, orbit-elim, orbit-length, orbit-symmetric}
@@ -60,15 +60,26 @@ fixes-elim gs w i h = same-eq (reach gs i w) w h
 pub fixes-zero : (gs : List Generator) (w : Word) → fixes gs w 0 ≡ true
 fixes-zero gs w = fixes-intro gs w 0 (reach-zero gs w)
 
+pub fixing-all : (gs : List Generator) (w : Word) (i : ℕ) → Member i (fixing gs w) ↔ ((i < orderOf gs) × (reach gs i w ≡ w))
+unfolding fixing
+fixing-all gs w i = (there, back)
+  where
+    there : Member i (fixing gs w) → (i < orderOf gs) × (reach gs i w ≡ w)
+    there m = let (k, e) = of-member-select (fixes gs w) (below (orderOf gs)) i m in (of-member-below (orderOf gs) i k, fixes-elim gs w i e)
+
+    back : (i < orderOf gs) × (reach gs i w ≡ w) → Member i (fixing gs w)
+    back h = member-select (fixes gs w) (below (orderOf gs)) i (member-below (orderOf gs) i (h .0)) (fixes-intro gs w i (h .1))
+
+pub fixing-noRepeats : (gs : List Generator) (w : Word) → NoRepeats (fixing gs w)
+unfolding fixing
+fixing-noRepeats gs w = noRepeats-select (fixes gs w) (below (orderOf gs)) (noRepeats-below (orderOf gs))
+
 pub orbit-noRepeats : (gs : List Generator) (w : Word) → NoRepeats (orbit gs w)
 unfolding orbit
 orbit-noRepeats gs w = noRepeats-once (orbitList gs w)
 
 pub fixing-positive : {n : ℕ} {gs : List Generator} → Valid n gs → (w : Word) → 0 < length (fixing gs w)
-unfolding fixing
-fixing-positive {gs = gs} v w =
-    length-positive 0 (fixing gs w)
-    (member-select (fixes gs w) (below (orderOf gs)) 0 (member-below (orderOf gs) 0 (order-of-positive gs (valid-positive v))) (fixes-zero gs w))
+fixing-positive {gs = gs} v w = length-positive 0 (fixing gs w) (fixing-all gs w 0 .1 (order-of-positive gs (valid-positive v), reach-zero gs w))
 
 module _ {n : ℕ} {gs : List Generator} (v : Valid n gs) (w : Word) (e : length w ≡ n) where
   pub fixes-add : (i j : ℕ) → fixes gs w i ≡ true → fixes gs w j ≡ true → fixes gs w (add gs i j) ≡ true

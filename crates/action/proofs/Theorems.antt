@@ -3,12 +3,12 @@
 -- 1 Words, 2 Permutations, 3 Indices, 4 Canonical, 5 Stabilizer, 6 Characters, 7 Kept lists, 8 Pairs, 9 Lattices. From 3 to 8, gs are valid
 -- generators of n sites (`Valid n gs`: each permutes the sites, every two commute, and each order is exact), and n and the number of generators
 -- are any.
-use Prim.Native.Nat.{ℕ, suc, _+_, _*_, _^_, _%_, _<_, _≤_}
-use mathlib.Core.Path.{_≡_, _∙_}
+use Prim.Native.Nat.{ℕ, suc, _+_, _*_, _^_, _%_, _<_, _≤_, _∣_}
+use mathlib.Core.Path.{_≡_, refl, _∙_}
 use mathlib.Core.Logic.{_⊎_, _↔_}
 use mathlib.Core.Bool.{Bool, true, false}
 use mathlib.Core.List.{List}
-use lib.IntN.{ℤ}
+use lib.IntN.{ℤ, pos, negsuc}
 use lib.ListN.{length, getD}
 use Rattle.pauli_word.specs.Word.{I, Word, bits, ones, same, less, weight}
 use Rattle.pauli_word.proofs.Order as WordOrder
@@ -19,8 +19,8 @@ use Rattle.action.specs.Permutation.{Generator, target, sends, after, ex
 use Rattle.action.specs.Lattice.{shifts, chain, ladder, torus2, torus3}
 use Rattle.action.specs.Index.{orderOf, digits, Digits, index, addDigits, add, inverse}
 use Rattle.action.specs.Orbit.{move, reach, stepped, orbit, isIn, least, forward, indexBack, fixes, fixing, orbitSize}
-use Rattle.action.specs.Sector.{modulus, numerator, reducedModes, reducedDigits, Modes, Character, keeps}
-use Rattle.action.specs.Count.{allWords, allModes, keptLists, keptPairs}
+use Rattle.action.specs.Sector.{modulus, reduced, numerator, reducedModes, reducedDigits, Modes, Character, keeps}
+use Rattle.action.specs.Count.{allWords, allModes, representatives, keptLists, keptPairs}
 use Rattle.action.proofs.Order as Order
 use Rattle.action.proofs.Move as Move
 use Rattle.action.proofs.Index as Index
@@ -142,7 +142,7 @@ module _ {n : ℕ} {gs : List Generator} (valid : Valid n gs) where
     -- the index back is the inverse of `forward`, which reaches the least word, and no earlier index does
     pub back-inverse : indexBack gs w ≡ inverse gs (forward gs w)
     unfolding indexBack
-    back-inverse = λ i. inverse gs (forward gs w)
+    back-inverse = refl
 
     pub forward-below : forward gs w < orderOf gs
     forward-below = Canonical.forward-below valid w
@@ -172,6 +172,9 @@ module _ {n : ℕ} {gs : List Generator} (valid : Valid n gs) where
 
     -- ---- 5 Stabilizer: the fixing indices are a subgroup, and the order is the number of different orbit words times theirs
 
+    pub fixes-reach : (i : ℕ) → (fixes gs w i ≡ true) ↔ (reach gs i w ≡ w)
+    fixes-reach i = (Stabilizer.fixes-elim gs w i, Stabilizer.fixes-intro gs w i)
+
     pub fixes-zero : fixes gs w 0 ≡ true
     fixes-zero = Stabilizer.fixes-zero gs w
 
@@ -180,6 +183,13 @@ module _ {n : ℕ} {gs : List Generator} (valid : Valid n gs) where
 
     pub fixes-inverse : (i : ℕ) → fixes gs w i ≡ true → fixes gs w (inverse gs i) ≡ true
     fixes-inverse = Stabilizer.fixes-inverse valid w long
+
+    -- `fixing` lists the fixing indices below the order, once each
+    pub fixing-all : (i : ℕ) → Member i (fixing gs w) ↔ ((i < orderOf gs) × (reach gs i w ≡ w))
+    fixing-all = Stabilizer.fixing-all gs w
+
+    pub fixing-once : NoRepeats (fixing gs w)
+    fixing-once = Stabilizer.fixing-noRepeats gs w
 
     -- the orbit lists its words once each
     pub orbit-once : NoRepeats (orbit gs w)
@@ -194,8 +204,34 @@ module _ {n : ℕ} {gs : List Generator} (valid : Valid n gs) where
     pub nothing-left-over : orderOf gs % length (fixing gs w) ≡ 0
     nothing-left-over = Stabilizer.fixing-divides valid w long
 
-  -- ---- 6 Characters: the numerator turns sums of indices into sums modulo the phase modulus, and the mode lists are all the characters
+-- ---- 6 Characters: a mode counts modulo its generator's order. The numerator turns sums of indices into sums modulo the phase modulus, and the
+-- mode lists are all the characters
 
+-- a mode is reduced to 0 .. o - 1, by a multiple of the order o
+pub reduced-below : (o : ℕ) (k : ℤ) → 0 < o → reduced o k < o
+reduced-below = Characters.reduced-below
+
+pub reduced-positive : (o k : ℕ) → reduced o (pos k) ≡ k % o
+unfolding reduced
+reduced-positive o k = refl
+
+-- negsuc k is - (k + 1)
+pub reduced-negative : (o k : ℕ) → 0 < o → (reduced o (negsuc k) + suc k) % o ≡ 0
+reduced-negative = Characters.reduced-negative
+
+module _ {n : ℕ} {gs : List Generator} (valid : Valid n gs) where
+  -- the phase modulus is the least common multiple of the orders
+  pub modulus-multiple : (g : Generator) → Member g gs → g .order ∣ modulus gs
+  modulus-multiple = Characters.modulus-multiple gs
+
+  pub modulus-least : (m : ℕ) → ((g : Generator) → Member g gs → g .order ∣ m) → modulus gs ∣ m
+  modulus-least = Characters.modulus-least gs
+
+  -- a mode list, reduced, is one of all mode lists
+  pub reduced-modes : (ks : List ℤ) → length ks ≡ length gs → Member (reducedModes gs ks) (allModes gs)
+  reduced-modes = Characters.reduced-modes gs (Index.valid-positive valid)
+
+  -- adding counters digit by digit adds their numerators
   pub numerator-counters : (ks : List ℤ) (cs ds : List ℕ) → length cs ≡ length gs → length ds ≡ length gs
       → numerator gs ks (addDigits gs cs ds) ≡ (numerator gs ks cs + numerator gs ks ds) % modulus gs
   numerator-counters = Characters.numerator-add gs (Index.valid-positive valid)
@@ -233,7 +269,7 @@ module _ {n : ℕ} {gs : List Generator} (valid : Valid n gs) where
     kept-lists = Kept.kept-lists valid w long
 
     pub keeps-lists : keptLists (keeps gs) gs w ≡ length (orbit gs w)
-    keeps-lists = Kept.kept-lists valid w long (keeps gs) (λ ks m i. keeps gs ks w)
+    keeps-lists = Kept.kept-lists valid w long (keeps gs) (λ ks m. refl)
 
     -- keeping is the same for all words of an orbit
     pub keeps-orbit : (ks : List ℤ) (u : Word) → isIn u (orbit gs w) ≡ true → keeps gs ks u ≡ keeps gs ks w
@@ -248,7 +284,14 @@ module _ {n : ℕ} {gs : List Generator} (valid : Valid n gs) where
   kept-pairs = Pairs.kept-pairs valid
 
   pub keeps-pairs : keptPairs (keeps gs) gs n ≡ 4 ^ n
-  keeps-pairs = Pairs.kept-pairs valid (keeps gs) (λ w ks e m i. keeps gs ks w)
+  keeps-pairs = Pairs.kept-pairs valid (keeps gs) (λ w ks e m. refl)
+
+  -- the representatives are the words of n letters that are the least of their own orbit, listed once each
+  pub representatives-all : (w : Word) → Member w (representatives gs n) ↔ ((length w ≡ n) × (least gs w ≡ w))
+  representatives-all = Pairs.representatives-all gs n
+
+  pub representatives-once : NoRepeats (representatives gs n)
+  representatives-once = Pairs.representatives-noRepeats gs n
 
   pub words-all : (w : Word) → Member w (allWords n) ↔ (length w ≡ n)
   words-all w = (Pairs.words-long n w, Pairs.words-all n w)

@@ -1,5 +1,5 @@
 -- Products, the greatest common divisor and the least common multiple. proofs/Arithmetic.antt shows that the last two are what their names say.
-use Prim.Native.Nat.{ℕ, zero, suc, _+_, _*_, _/_, _%_}
+use Prim.Native.Nat.{ℕ, zero, suc, _*_, _/_, _%_}
 use mathlib.Core.List.{List, [], _∷_}
 
 -- the product of a list, 1 where it is empty

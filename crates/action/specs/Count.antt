@@ -1,14 +1,13 @@
 -- What demand 3 counts: the mode lists that keep a word, and the pairs of a mode list and a representative that it keeps.
-use Prim.Native.Nat.{ℕ, zero, suc, _+_}
+use Prim.Native.Nat.{ℕ}
 use mathlib.Core.Bool.{Bool}
 use mathlib.Core.List.{List, [], _∷_, map}
 use lib.IntN.{ℤ, pos}
 use lib.ListN.{replicate}
-use Rattle.pauli_word.specs.Word.{Letter, I, X, Y, Z, Word}
+use Rattle.pauli_word.specs.Word.{I, X, Y, Z, Word}
 use Rattle.action.specs.Lists.{below, choices, count, select, total}
 use Rattle.action.specs.Permutation.{Generator}
 use Rattle.action.specs.Orbit.{isRepresentative}
-use Rattle.action.specs.Sector.{keeps}
 
 -- all words of n letters
 unfoldable pub allWords : ℕ → List Word

@@ -1,10 +1,10 @@
 -- What an index makes of a word; orbits, least words, representatives, and the indices that fix a word.
 use Prim.Native.Nat.{ℕ, zero, suc, _/_}
-use mathlib.Core.Bool.{Bool, true, false, _||_, cond}
+use mathlib.Core.Bool.{Bool, false, _||_, cond}
 use mathlib.Core.List.{List, [], _∷_, map}
 use lib.Dec.{eqb}
 use lib.ListN.{length, set, replicate}
-use Rattle.pauli_word.specs.Word.{Letter, I, Word, same, less}
+use Rattle.pauli_word.specs.Word.{I, Word, same, less}
 use Rattle.action.specs.Lists.{below, select}
 use Rattle.action.specs.Permutation.{Generator}
 use Rattle.action.specs.Index.{orderOf, digits, inverse}
