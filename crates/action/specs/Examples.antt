@@ -2,16 +2,17 @@
 use Prim.Native.Nat.{ℕ}
 use mathlib.Core.Path.{_≡_, refl}
 use mathlib.Core.Bool.{Bool, true, false, _&&_, Bool·beq}
-use mathlib.Core.List.{List, [], _∷_}
+use mathlib.Core.List.{List, [], _∷_, _++_}
 use lib.Dec.{eqb}
 use lib.IntN.{ℤ, pos, negsuc}
 use lib.ListN.{length}
-use Rattle.pauli_word.specs.Word.{I, X, Z, Word, same, weight}
+use Rattle.pauli_word.specs.Word.{I, X, Y, Z, Word, same, weight}
 use Rattle.action.specs.Lists.{every, count}
 use Rattle.action.specs.Permutation.{Generator}
-use Rattle.action.specs.Lattice.{chain, torus2}
+use Rattle.action.specs.Lattice.{chain, ladder, torus2, torus3}
+use Rattle.action.specs.Index.{digits}
 use Rattle.action.specs.Orbit.{least, indexBack, orbitSize}
-use Rattle.action.specs.Sector.{keeps}
+use Rattle.action.specs.Sector.{modulus, numerator, keeps}
 use Rattle.action.specs.Count.{allWords, representatives}
 
 -- two generators, each the swap of two sites
@@ -24,6 +25,8 @@ swaps = swap ∷ swap ∷ []
 pub data Example : Type 0 where
   -- group, word and modes; then least word, index, orbit size, weight, and whether the modes keep the word
   line : List Generator → Word → List ℤ → Word → ℕ → ℕ → ℕ → Bool → Example
+  -- group, modes and index; then the index's numerator, and the phase modulus
+  phase : List Generator → List ℤ → ℕ → ℕ → ℕ → Example
   -- group, site count and modes; then how many representatives they keep
   kept : List Generator → ℕ → List ℤ → ℕ → Example
   -- site count; then how many words there are
@@ -37,27 +40,49 @@ table =
     ∷ line (chain 4) (I ∷ I ∷ I ∷ I ∷ []) (negsuc 3 ∷ []) (I ∷ I ∷ I ∷ I ∷ []) 0 1 0 true
     ∷ line (chain 4) (I ∷ I ∷ I ∷ I ∷ []) (pos 1 ∷ []) (I ∷ I ∷ I ∷ I ∷ []) 0 1 0 false
     ∷ line (chain 2) (X ∷ Z ∷ []) (pos 0 ∷ []) (Z ∷ X ∷ []) 1 2 2 true
+    -- all X bits come before the Z bits
+    ∷ line (chain 3) (I ∷ X ∷ Z ∷ []) (pos 2 ∷ []) (Z ∷ I ∷ X ∷ []) 2 3 2 true
     ∷ kept (chain 2) 2 (pos 0 ∷ []) 10
     ∷ kept (chain 2) 2 (pos 1 ∷ []) 6
+    -- both legs shift along their length
+    ∷ line (ladder 2 2) (X ∷ I ∷ I ∷ Y ∷ []) (pos 1 ∷ []) (I ∷ X ∷ Y ∷ I ∷ []) 1 2 3 true
+    ∷ line (ladder 2 2) (X ∷ X ∷ Y ∷ Y ∷ []) (pos 1 ∷ []) (X ∷ X ∷ Y ∷ Y ∷ []) 0 1 6 false
+    ∷ line (ladder 3 2) (X ∷ I ∷ I ∷ Y ∷ I ∷ I ∷ []) (pos 1 ∷ []) (I ∷ I ∷ X ∷ I ∷ I ∷ Y ∷ []) 1 3 3 true
     ∷ line (torus2 2 2) (X ∷ I ∷ I ∷ I ∷ []) (pos 0 ∷ pos 0 ∷ []) (I ∷ I ∷ I ∷ X ∷ []) 3 4 1 true
     ∷ line (torus2 2 2) (X ∷ X ∷ I ∷ I ∷ []) (pos 0 ∷ pos 1 ∷ []) (I ∷ I ∷ X ∷ X ∷ []) 2 2 2 true
     ∷ line (torus2 2 2) (X ∷ X ∷ I ∷ I ∷ []) (pos 1 ∷ pos 0 ∷ []) (I ∷ I ∷ X ∷ X ∷ []) 2 2 2 false
+    ∷ line (torus2 2 3) (Y ∷ Y ∷ I ∷ I ∷ I ∷ I ∷ []) (pos 0 ∷ pos 1 ∷ []) (I ∷ I ∷ I ∷ I ∷ Y ∷ Y ∷ []) 2 3 4 true
+    ∷ line (torus2 2 3) (Y ∷ Y ∷ I ∷ I ∷ I ∷ I ∷ []) (pos 1 ∷ pos 0 ∷ []) (I ∷ I ∷ I ∷ I ∷ Y ∷ Y ∷ []) 2 3 4 false
+    -- index 5, digits 1 and 2, fixes the word: its numerator is 1 * 2 + 2 * 1 of 4, a whole turn
+    ∷ line (torus2 2 4) (X ∷ I ∷ I ∷ I ∷ I ∷ X ∷ I ∷ I ∷ []) (pos 1 ∷ pos 1 ∷ []) (I ∷ I ∷ I ∷ X ∷ I ∷ I ∷ X ∷ I ∷ []) 7 4 2 true
+    ∷ line (torus2 2 4) (X ∷ I ∷ I ∷ I ∷ I ∷ X ∷ I ∷ I ∷ []) (pos 0 ∷ pos 1 ∷ []) (I ∷ I ∷ I ∷ X ∷ I ∷ I ∷ X ∷ I ∷ []) 7 4 2 false
+    ∷ line (torus3 2 3 2) (X ∷ Z ∷ I ∷ I ∷ I ∷ I ∷ I ∷ I ∷ Y ∷ I ∷ I ∷ I ∷ []) (pos 0 ∷ pos 0 ∷ pos 0 ∷ []) (I ∷ I ∷ I ∷ I ∷ I ∷ Y ∷ I ∷ I ∷ Z ∷ X ∷ I ∷ I ∷ []) 11 12 4 true
+    ∷ line (torus3 2 3 2) (X ∷ I ∷ I ∷ I ∷ I ∷ I ∷ I ∷ X ∷ I ∷ I ∷ I ∷ I ∷ []) (pos 1 ∷ pos 0 ∷ pos 1 ∷ []) (I ∷ I ∷ I ∷ I ∷ I ∷ X ∷ I ∷ I ∷ I ∷ I ∷ X ∷ I ∷ []) 3 6 2 true
+    ∷ line (torus3 2 3 2) (X ∷ I ∷ I ∷ I ∷ I ∷ I ∷ I ∷ X ∷ I ∷ I ∷ I ∷ I ∷ []) (pos 0 ∷ pos 0 ∷ pos 1 ∷ []) (I ∷ I ∷ I ∷ I ∷ I ∷ X ∷ I ∷ I ∷ I ∷ I ∷ X ∷ I ∷ []) 3 6 2 false
+    -- equal generators count as two
     ∷ line swaps (X ∷ I ∷ []) (pos 0 ∷ pos 0 ∷ []) (I ∷ X ∷ []) 1 2 1 true
     ∷ line swaps (X ∷ I ∷ []) (pos 0 ∷ pos 1 ∷ []) (I ∷ X ∷ []) 1 2 1 false
     ∷ line swaps (X ∷ I ∷ []) (pos 1 ∷ pos 0 ∷ []) (I ∷ X ∷ []) 1 2 1 false
     ∷ line swaps (X ∷ I ∷ []) (pos 1 ∷ pos 1 ∷ []) (I ∷ X ∷ []) 1 2 1 true
+    -- the mode -1 is 2, and not 1
+    ∷ line (chain 3 ++ chain 3) (X ∷ I ∷ I ∷ []) (negsuc 0 ∷ pos 2 ∷ []) (I ∷ I ∷ X ∷ []) 1 3 1 true
+    ∷ line (chain 3 ++ chain 3) (X ∷ I ∷ I ∷ []) (pos 1 ∷ pos 2 ∷ []) (I ∷ I ∷ X ∷ []) 1 3 1 false
+    ∷ phase (chain 4) (negsuc 0 ∷ []) 1 3 4
+    ∷ phase (torus2 2 2) (pos 1 ∷ pos 1 ∷ []) 1 1 2
+    ∷ phase (torus2 2 3) (pos 1 ∷ pos 1 ∷ []) 3 5 6
     ∷ line [] [] [] [] 0 1 0 true
     ∷ words 0 1
     ∷ []
 
 unfoldable pub holds : Example → Bool
-unfolding least indexBack orbitSize weight keeps count representatives allWords
+unfolding least indexBack orbitSize weight keeps numerator digits modulus count representatives allWords
 holds (line gs w ks v i s k b) =
     same (least gs w) v && eqb (indexBack gs w) i && eqb (orbitSize gs w) s && eqb (weight w) k && Bool·beq (keeps gs ks w) b
+holds (phase gs ks i p m) = eqb (numerator gs ks (digits gs i)) p && eqb (modulus gs) m
 holds (kept gs n ks k) = eqb (count (keeps gs ks) (representatives gs n)) k
 holds (words n k) = eqb (length (allWords n)) k
 
 -- every line of the table holds
 pub examples : every holds table ≡ true
-unfolding every holds swaps chain torus2
+unfolding every holds swaps chain ladder torus2 torus3
 examples = refl
