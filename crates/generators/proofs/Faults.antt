@@ -12,7 +12,8 @@ use Rattle.outcome.specs.Outcome.{answer, refusalOf, verdict, alone}
 use Rattle.outcome.proofs.Outcomes.{one-refused, one-answered, refused-broken, first-refuses}
 use Rattle.action.specs.Permutation.{exactOrder}
 use Rattle.permutation.specs.Limits.{maxOrder}
-use Rattle.permutation.specs.Generators.{fine, broke, targetsCheck, permCheck, orderFits, orderCheck, ordersCheck, pairsCheck, productOf, orderOverflow, orderLimit, groupChecks}
+use Rattle.action.specs.Arithmetic.{product}
+use Rattle.permutation.specs.Generators.{fine, broke, targetsCheck, permCheck, orderFits, orderCheck, ordersCheck, pairsCheck, orderOverflow, orderLimit, groupChecks}
 use Rattle.permutation.specs.Parts.{exactOutcome, productOutcome}
 
 -- ---- 5 to 7
@@ -60,17 +61,17 @@ module _ (orders : List ℕ) (n : ℕ) (perms : List (List ℕ)) (ordered : orde
   module _ (commuting : pairsCheck n 0 perms .broken ≡ false) where
     pub group-beyond : (why : Refusal) → productOutcome orders ≡ refusalOf why → verdict (groupChecks n perms orders) ≡ refusalOf Refusal.GroupOrderOverflow
     unfolding productOutcome
-    group-beyond why h = rw (ordered, commuting, one-refused (orderOverflow orders) (productOf orders) why h)
+    group-beyond why h = rw (ordered, commuting, one-refused (orderOverflow orders) (product orders) why h)
 
     module _ (order : ℕ) (h : productOutcome orders ≡ answer order) where
       pub group-large : maxOrder < order → verdict (groupChecks n perms orders) ≡ refusalOf Refusal.GroupOrderLimit
       unfolding productOutcome
       group-large l =
-          let (fits, same) = one-answered (orderOverflow orders) (productOf orders) order h in
+          let (fits, same) = one-answered (orderOverflow orders) (product orders) order h in
           rw (ordered, commuting, fits, same, lt-ltb maxOrder order l)
 
       pub group-fine : order ≤ maxOrder → verdict (groupChecks n perms orders) ≡ answer tt
       unfolding productOutcome
       group-fine l =
-          let (fits, same) = one-answered (orderOverflow orders) (productOf orders) order h in
+          let (fits, same) = one-answered (orderOverflow orders) (product orders) order h in
           rw (ordered, commuting, fits, same, le-ltb maxOrder order l)

@@ -13,9 +13,9 @@ use Rattle.pauli_word.specs.Bytes.{clearFrom, Bytes, AcceptedWord}
 use Rattle.pauli_word.specs.Calls.{siteCount, clearAbove}
 use Rattle.action.specs.Index.{orderOf}
 use Rattle.permutation.specs.Limits.{maxGenerators, targetPlaces}
-use Rattle.permutation.proofs.Rules.{verdict-fine}
+use Rattle.outcome.proofs.Outcomes.{verdict-fine}
 use Rattle.generators.proofs.Groups.{hold-valid}
-use Rattle.orbit.specs.Tables.{generatorsIn, Tables}
+use Rattle.elements.specs.Tables.{generatorsIn, Tables}
 use Rattle.group.specs.declared.Group.{Group}
 use Rattle.group.specs.declared.Walk.{Walk}
 use Rattle.group.specs.Value.{generatorsOf, isGroup, AcceptedGroup}

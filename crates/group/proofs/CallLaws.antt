@@ -11,7 +11,7 @@ use Rattle.pauli_word.specs.Limits.{maxSites, planeLength, wordLength}
 use Rattle.outcome.specs.Outcome.{Outcome, refused, answer, Check, verdict, given, unless, onAnswer, orElse}
 use Rattle.pauli_word.specs.Bytes.{clearFrom, Bytes, AcceptedWord}
 use Rattle.pauli_word.specs.Calls.{siteCount, wordSize, bitAbove, clearAbove}
-use Rattle.permutation.proofs.Rules.{verdict-fine}
+use Rattle.outcome.proofs.Outcomes.{verdict-fine}
 use Rattle.group.specs.declared.Group.{Group}
 use Rattle.outcome.specs.declared.Refusal.{Refusal}
 use Rattle.outcome.specs.declared.Refusal.the-variants as Refusal

@@ -12,7 +12,7 @@ use lib.Dec.{ltb}
 use lib.ListN.{length, getD, take, length-map}
 use lib.Seq.{length-take-le}
 use borrow.Author.Tests.{leb-true, le-leb, ltb-true, ltb-false, le-ltb, eq-eqb, not-false}
-use Rattle.pauli_word.specs.Limits.{maxSites, planeLength, wordLength}
+use Rattle.pauli_word.specs.Limits.{maxSites, wordLength}
 use Rattle.outcome.specs.Outcome.{Outcome, refused, answer, Check, verdict, given, unless}
 use Rattle.pauli_word.specs.Bytes.{AcceptedWord}
 use Rattle.pauli_word.specs.Calls.{siteCount}
@@ -23,11 +23,12 @@ use Rattle.action.proofs.Lists.{of-member-append}
 use Rattle.permutation.specs.Limits.{maxGenerators, maxOrder, maxDeclared, targetPlaces}
 use Rattle.permutation.specs.Generators.{permsOf, listEnd, permsCheck, ordersCheck, pairsCheck, orderOverflow, orderLimit, groupChecks, generatorChecks, declared, rowsOf}
 use Rattle.permutation.proofs.Pairs.{rows-length}
-use Rattle.permutation.proofs.Rules.{of-member-at, perms-fine, orders-fine, verdict-fine, checks-of-valid}
+use Rattle.outcome.proofs.Outcomes.{verdict-fine}
+use Rattle.permutation.proofs.Rules.{of-member-at, perms-fine, orders-fine, checks-of-valid}
 use Rattle.generators.specs.Tables.{filled, placedAll}
 use Rattle.generators.specs.Parts.{anyZero}
 use Rattle.generators.proofs.Groups.{hold-valid, hold-placed, same-count, placed-rows, placed-orders, placed-hold, placed-long, orders-long, written, written-ends, written-perms}
-use Rattle.orbit.proofs.Tables.{generators-of}
+use Rattle.elements.proofs.Tables.{generators-of}
 use Rattle.group.specs.declared.Group.{Group}
 use Rattle.group.specs.Value.{groupOf, tryFromOutcome, Fit, GivenBy, generatorsOf, isGroup, AcceptedGroup}
 use Rattle.group.specs.Calls.{zeroSide, sidesLimit, latticeOutcome, wordCallChecks}

@@ -10,18 +10,18 @@ use lib.ListN.{length, take, length-map}
 use lib.Seq.{take-at}
 use borrow.Author.Tests.{lt-ltb, le-ltb, eq-eqb, ne-eqb}
 use Rattle.pauli_word.specs.Limits.{maxSites}
-use Rattle.outcome.specs.Outcome.{Outcome, refused, answer, Check, verdict, given, onAnswer, orElse}
+use Rattle.outcome.specs.Outcome.{Outcome, refused, answer, Check, verdict, given, onAnswer, orElse, answers, refusalOf, alone}
 use Rattle.pauli_word.specs.Calls.{siteCount}
-use Rattle.pauli_word.proofs.Checks.{call-answers}
+use Rattle.outcome.proofs.Outcomes.{call-answers, refused-broken, first-refuses}
 use Rattle.permutation.specs.Limits.{maxGenerators}
 use Rattle.permutation.specs.Generators.{endsInside, permsOf, listEnd, permsCheck, groupChecks, generatorChecks, declared, rowsOf}
 use Rattle.permutation.proofs.Rules.{perms-fine}
 use Rattle.outcome.specs.declared.Refusal.{Refusal}
 use Rattle.generators.specs.declared.list.Scan.the-variants as Scan
-use Rattle.generators.specs.Tables.{filled, placedAll, answers}
-use Rattle.generators.specs.Parts.{scanOutcome, refusalOf}
+use Rattle.generators.specs.Tables.{filled, placedAll}
+use Rattle.generators.specs.Parts.{scanOutcome}
 use Rattle.generators.proofs.Zeros.{blank}
-use Rattle.generators.proofs.Verdicts.{alone, refusal-no-answer, refused-broken, first-refuses}
+use Rattle.generators.proofs.Verdicts.{refusal-no-answer}
 use Rattle.generators.proofs.Groups.{rows-placed}
 use Rattle.group.specs.declared.Group.{Group}
 use Rattle.group.specs.declared.Grouped.the-variants as Grouped

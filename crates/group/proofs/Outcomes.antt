@@ -8,11 +8,11 @@ use native.Mathlib.Omega.{arith}
 use lib.Dec.{ltb, eqb}
 use lib.ListN.{length, drop, drop-of-length-le}
 use borrow.Author.Tests.{leb-true, lt-ltb, le-ltb, eq-eqb, ne-eqb}
-use Rattle.pauli_word.specs.Limits.{maxSites, planeLength, wordLength}
+use Rattle.pauli_word.specs.Limits.{maxSites, wordLength}
 use Rattle.outcome.specs.Outcome.{refused, answer, verdict}
-use Rattle.pauli_word.specs.Bytes.{decode, AcceptedWord}
+use Rattle.pauli_word.specs.Bytes.{AcceptedWord}
 use Rattle.pauli_word.specs.Calls.{siteCount}
-use Rattle.pauli_word.proofs.Checks.{call-answers}
+use Rattle.outcome.proofs.Outcomes.{call-answers}
 use Rattle.action.specs.Index.{orderOf, digits, inverse}
 use Rattle.action.specs.Orbit.{orbitList, least, indexBack}
 use Rattle.group.specs.declared.Group.{Group}

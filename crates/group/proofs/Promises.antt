@@ -10,12 +10,12 @@ use mathlib.Core.List.{List, _∷_, map}
 use native.Mathlib.Nat.{mul-one, mul-assoc}
 use native.Mathlib.Omega.{arith}
 use lib.ListN.{length}
-use Rattle.pauli_word.specs.Limits.{planeLength, wordLength}
+use Rattle.pauli_word.specs.Limits.{wordLength}
 use Rattle.outcome.specs.Outcome.{Outcome, answer, verdict}
 use Rattle.pauli_word.specs.Word.{Word, less}
-use Rattle.pauli_word.specs.Bytes.{decode, encode, Bytes, AcceptedWord}
+use Rattle.pauli_word.specs.Bytes.{Bytes, AcceptedWord}
 use Rattle.pauli_word.specs.Calls.{siteCount}
-use Rattle.pauli_word.proofs.Checks.{call-answers}
+use Rattle.outcome.proofs.Outcomes.{call-answers}
 use Rattle.pauli_word.proofs.Words.{decode-length}
 use Rattle.action.specs.Permutation.{Generator, Valid}
 use Rattle.action.specs.Lattice.{shift, chain, ladder, torus2, torus3}
@@ -25,7 +25,7 @@ use Rattle.action.proofs.Theorems as Action
 use Rattle.action.proofs.Lattice.{chain-valid, ladder-valid, torus2-valid, torus3-valid}
 use Rattle.permutation.specs.Generators.{permsOf, listEnd, generatorChecks, declared}
 use Rattle.generators.proofs.Groups.{written}
-use Rattle.orbit.proofs.Orbits.{entries, entries-all}
+use Rattle.elements.proofs.Orbits.{entries, entries-all}
 use Rattle.group.specs.declared.Group.{Group}
 use Rattle.group.specs.declared.Walk.{Walk}
 use Rattle.group.specs.Value.{groupOf, noGroup, tryFromOutcome, GivenBy, generatorsOf, isGroup, AcceptedGroup}

@@ -9,9 +9,9 @@ use borrow.Author.Tests.{lt-ltb, le-ltb, eq-eqb, ne-eqb}
 use Rattle.outcome.specs.declared.Refusal.{Refusal}
 use Rattle.outcome.specs.declared.Refusal.the-variants.{BitAboveSites}
 use Rattle.pauli_word.specs.Limits.{maxSites, wordLength}
-use Rattle.outcome.specs.Outcome.{refused, answer, verdict, orElse}
-use Rattle.pauli_word.specs.Calls.{wordChecks, clearAbove, refusalOf}
-use Rattle.pauli_word.proofs.Checks.{refusal-else}
+use Rattle.outcome.specs.Outcome.{refused, answer, verdict, orElse, refusalOf}
+use Rattle.pauli_word.specs.Calls.{wordChecks, clearAbove}
+use Rattle.group.proofs.CallLaws.{refusal-else}
 use Rattle.group.specs.declared.Group.{Group}
 use Rattle.group.specs.Value.{isGroup}
 use Rattle.group.specs.Calls.{valueChecks, wordCallChecks}

@@ -12,16 +12,16 @@ use borrow.Author.Tests.{leb-true, le-leb, le-ltb}
 use Rattle.pauli_word.specs.Limits.{maxSites, planeLength, wordLength}
 use Rattle.outcome.specs.Outcome.{Outcome, answer, verdict, orElse}
 use Rattle.pauli_word.specs.Word.{Word}
-use Rattle.pauli_word.specs.Bytes.{decode, encode, Bytes, AcceptedWord}
+use Rattle.pauli_word.specs.Bytes.{Bytes, AcceptedWord}
 use Rattle.pauli_word.specs.Calls.{siteCount}
-use Rattle.pauli_word.proofs.Checks.{call-answers}
+use Rattle.outcome.proofs.Outcomes.{call-answers}
 use Rattle.pauli_word.proofs.Words.{map-append, decode-length, encode-decode, encoded-accepted, encoded-decode}
 use Rattle.action.specs.Lists.{from, below}
 use Rattle.action.specs.Index.{orderOf, inverse}
 use Rattle.action.specs.Orbit.{reach}
 use Rattle.action.proofs.Reach.{reach-length, reach-of-inverse}
-use Rattle.orbit.specs.Tables.{Tables}
-use Rattle.orbit.proofs.Orbits.{entries, entries-next, walk-start, walk-accepted, walk-next}
+use Rattle.elements.specs.Tables.{Tables}
+use Rattle.elements.proofs.Orbits.{entries, entries-next, walk-start, walk-accepted, walk-next}
 use Rattle.group.specs.declared.Group.{Group}
 use Rattle.group.specs.declared.Walk.{Walk}
 use Rattle.group.specs.Value.{generatorsOf, AcceptedGroup}

@@ -1,13 +1,12 @@
 -- What each call of this crate comes to: its checks in their order, then its answer; and what each answer's cases mean.
-use Prim.Native.Nat.{ℕ, suc, _+_, _*_}
-use mathlib.Core.Bool.{Bool, true, false, _&&_, not, cond}
-use mathlib.Core.List.{List, [], _∷_, _++_, map}
+use Prim.Native.Nat.{ℕ, suc, _*_}
+use mathlib.Core.Bool.{Bool, _&&_, not, cond}
+use mathlib.Core.List.{List, [], _∷_, _++_}
 use lib.Dec.{ltb, leb, eqb}
-use lib.ListN.{length, take, drop, replicate}
-use Rattle.pauli_word.specs.Limits.{maxSites, planeLength, wordLength}
-use Rattle.outcome.specs.Outcome.{Outcome, refused, answer, Check, unless}
+use lib.ListN.{replicate}
+use Rattle.pauli_word.specs.Limits.{maxSites, wordLength}
+use Rattle.outcome.specs.Outcome.{Outcome, refused, answer, Check, unless, refusalOf}
 use Rattle.pauli_word.specs.Word.{Word}
-use Rattle.pauli_word.specs.Bytes.{decode, encode}
 use Rattle.pauli_word.specs.Calls.{siteCount, wordSize, bitAbove, clearAbove}
 use Rattle.action.specs.Permutation.{Generator}
 use Rattle.action.specs.Lattice.{chain, ladder, torus2, torus3}
@@ -29,7 +28,7 @@ use Rattle.group.specs.declared.Done.the-variants as Done
 use Rattle.group.specs.declared.Step.{Step}
 use Rattle.group.specs.declared.Step.the-variants as Step
 use Rattle.permutation.specs.Limits.{maxOrder}
-use Rattle.generators.specs.Parts.{refusalOf, anyZero}
+use Rattle.generators.specs.Parts.{anyZero}
 use Rattle.group.specs.Value.{groupOf, noGroup, generatorsOf, isGroup, notAGroup}
 
 -- that there is an answer, and the answer itself

@@ -13,7 +13,7 @@ ghost use Rattle.action.specs.Orbit.{least, indexBack};
 ghost use Rattle.action.specs.Sector.{modulus};
 ghost use Rattle.permutation.specs.Limits.{maxGenerators};
 ghost use Rattle.permutation.specs.Generators.{endsInside, permsOf};
-ghost use Rattle.orbit.specs.Tables.{encodeAll};
+ghost use Rattle.elements.specs.Tables.{encodeAll};
 ghost use Rattle.group.specs.Value.{noGroup, generatorsOf, AcceptedGroup, tryFromOutcome};
 ghost use Rattle.group.specs.Calls.{done, itself, outcomeOfVerdict, outcomeOfNumber, outcomeOfVerdict, outcomeOfStep, indexRange, listLength, counterOutcome, invertOutcome, withShiftOutcome, wordOf, shiftOf, orbitListOutcome, noWord, noWalk, notAWalk, nextOutcome, entryWord, afterEntry};
 ghost use Rattle.group.specs.Parts.{outcomeOfVerdict};
@@ -25,7 +25,7 @@ use crate::Step;
 use crate::Stepped;
 use crate::Walk;
 use crate::value;
-use orbit::walk::LeastWord;
+use elements::walk::LeastWord;
 use pauli_word::WORD_BYTES;
 use permutation::MAX_GENERATORS;
 use permutation::MAX_ORDER;
@@ -119,7 +119,7 @@ pub fn order_of(group: Group) -> usize
 {
     let targets = group.targets;
     let orders = group.orders;
-    orbit::index::order(&targets, &orders, group.generators, group.sites)
+    elements::index::order(&targets, &orders, group.generators, group.sites)
 }
 
 // The phase modulus of a group.
@@ -129,7 +129,7 @@ pub fn modulus_of(group: Group) -> usize
 {
     let targets = group.targets;
     let orders = group.orders;
-    orbit::index::phase_modulus(&targets, &orders, group.generators, group.sites)
+    elements::index::phase_modulus(&targets, &orders, group.generators, group.sites)
 }
 
 // 19, 21, then the digits.
@@ -146,7 +146,7 @@ pub fn counter_of(group: Group, index: usize, counter: &mut [u32]) -> Verdict
     }
     let targets = group.targets;
     let orders = group.orders;
-    orbit::index::fill_counter(
+    elements::index::fill_counter(
         &targets,
         &orders,
         group.generators,
@@ -167,7 +167,7 @@ pub fn inverse_of(group: Group, index: usize) -> Number
     }
     let targets = group.targets;
     let orders = group.orders;
-    Number::Value(orbit::index::invert(&targets, &orders, group.generators, group.sites, index))
+    Number::Value(elements::index::invert(&targets, &orders, group.generators, group.sites, index))
 }
 
 // The least word of an accepted word's orbit, and the index that leads from it back.
@@ -180,7 +180,7 @@ pub fn least_of(group: Group, word: &[u8]) -> LeastWord
     let targets = group.targets;
     let orders = group.orders;
     let order = order_of(group);
-    let found = orbit::walk::canonicalize_odometer(
+    let found = elements::walk::canonicalize_odometer(
         &targets,
         &orders,
         group.generators,
@@ -188,7 +188,7 @@ pub fn least_of(group: Group, word: &[u8]) -> LeastWord
         order,
         word,
     );
-    let index = orbit::index::invert(
+    let index = elements::index::invert(
         &targets,
         &orders,
         group.generators,
@@ -216,7 +216,7 @@ pub fn shift_of(group: Group, word: &[u8], counter: &mut [u32]) -> Canonical
     let found = least_of(group, word);
     let targets = group.targets;
     let orders = group.orders;
-    orbit::index::fill_counter(
+    elements::index::fill_counter(
         &targets,
         &orders,
         group.generators,
@@ -244,7 +244,7 @@ pub fn orbit_of(group: Group, word: &[u8], list: &mut [u8]) -> Verdict
     }
     let targets = group.targets;
     let orders = group.orders;
-    orbit::walk::fill_orbit(
+    elements::walk::fill_orbit(
         &targets,
         &orders,
         group.generators,
@@ -273,7 +273,7 @@ pub fn walk_from(group: Group, word: &[u8]) -> Walk
     ensures { λ r. ⌜ (r .group ≡ group) × (r .word ≡ now (word .entry)) × (r .index ≡ 0) ⌝ }
 {
     let mut first = [0u8; WORD_BYTES];
-    orbit::walk::copy(word, &mut first);
+    elements::walk::copy(word, &mut first);
     Walk {
         group,
         word: first,
@@ -323,7 +323,7 @@ pub fn step_of(walk: Walk) -> Stepped
     let mut next = walk.word;
     let targets = group.targets;
     let orders = group.orders;
-    orbit::walk::advance(
+    elements::walk::advance(
         &targets,
         &orders,
         group.generators,

@@ -11,7 +11,7 @@ ghost use lib.ListN.{length};
 ghost use Rattle.pauli_word.specs.Limits.{planeLength};
 ghost use Rattle.outcome.specs.Outcome.{onAnswer, orElse};
 ghost use Rattle.pauli_word.specs.Bytes.{encode};
-ghost use Rattle.orbit.specs.Tables.{encodeAll};
+ghost use Rattle.elements.specs.Tables.{encodeAll};
 ghost use Rattle.group.specs.Value.{noGroup, tryFromOutcome};
 ghost use Rattle.group.specs.Calls.{done, itself, outcomeOfVerdict, outcomeOfVerdict, outcomeOfNumber, outcomeOfVerdict, outcomeOfStep, chainOutcome, ladderOutcome, torus2Outcome, torus3Outcome, orderOutcome, modulusOutcome, counterOutcome, invertOutcome, canonicalizeOutcome, withIndexOutcome, withShiftOutcome, orbitListOutcome, noWord, beginOutcome, noWalk, nextOutcome, entryWord, afterEntry, wordOf, indexOf, shiftOf};
 use pauli_word::MAX_SITES;

@@ -9,7 +9,7 @@ use Rattle.pauli_word.specs.Limits.{maxSites}
 use Rattle.action.specs.Permutation.{Valid}
 use Rattle.action.specs.Index.{orderOf}
 use Rattle.permutation.specs.Limits.{maxOrder}
-use Rattle.orbit.proofs.Tables.{generators-length}
+use Rattle.elements.proofs.Tables.{generators-length}
 use Rattle.group.specs.declared.Group.{Group}
 use Rattle.group.specs.Value.{GivenBy, generatorsOf, AcceptedGroup}
 use Rattle.group.proofs.Accepted.{accepted-tables}

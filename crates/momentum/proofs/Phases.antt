@@ -21,10 +21,10 @@ use Rattle.action.specs.Sector.{modulus, reduced, phases, numerator}
 use Rattle.action.proofs.Index.{valid-positive, digits-proper, digits-length}
 use Rattle.action.proofs.Characters as Characters
 use Rattle.permutation.specs.Limits.{maxOrder}
-use Rattle.orbit.specs.Tables.{generatorsIn, Tables}
-use Rattle.orbit.proofs.Tables.{generators-length, rest-at, rest-end}
-use Rattle.orbit.proofs.Orbits.{below-next}
-use Rattle.orbit.proofs.Indices.{multiple-small, multiple-all}
+use Rattle.elements.specs.Tables.{generatorsIn, Tables}
+use Rattle.elements.proofs.Tables.{generators-length, rest-at, rest-end}
+use Rattle.elements.proofs.Orbits.{below-next}
+use Rattle.elements.proofs.Indices.{multiple-small, multiple-all}
 use Rattle.momentum.specs.Calls.{numerators}
 
 -- ---- one generator

@@ -112,7 +112,7 @@ pub fn decided(group: Group, word: &[u8], modes: &[i32], counter: &mut [u32]) ->
     };
     let targets = group.targets;
     let orders = group.orders;
-    orbit::index::fill_counter(
+    elements::index::fill_counter(
         &targets,
         &orders,
         group.generators,
@@ -171,7 +171,7 @@ pub fn placement_of(group: Group, word: &[u8], modes: &[i32]) -> Placed
             word: [0u8; WORD_BYTES],
         };
     };
-    let index = orbit::index::invert(&targets, &orders, generators, sites, forward);
+    let index = elements::index::invert(&targets, &orders, generators, sites, forward);
     let least = found.word;
     Placed {
         answer: Placement::Kept(index, order / fixing),

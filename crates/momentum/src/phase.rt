@@ -4,7 +4,7 @@ ghost use Prim.Native.Nat.{_*_, _/_, _%_, _<_};
 ghost use lib.ListN.{length};
 ghost use Rattle.action.specs.Index.{orderOf, digits};
 ghost use Rattle.action.specs.Sector.{modulus as modulusOf, reduced, numerator as numeratorOf, trivial as trivialAt};
-ghost use Rattle.orbit.specs.Tables.{generatorsIn, Tables};
+ghost use Rattle.elements.specs.Tables.{generatorsIn, Tables};
 ghost use Rattle.momentum.specs.Calls.{numerators};
 use permutation::MAX_GENERATORS;
 
@@ -70,7 +70,7 @@ pub fn numerator_at(
     ensures { λ r. ⌜ r ≡ numeratorOf (generatorsIn generators sites (now (targets .entry)) (now (orders .entry))) (now (modes .entry)) (digits (generatorsIn generators sites (now (targets .entry)) (now (orders .entry))) index) ⌝ }
 {
     let mut counter = [0u32; MAX_GENERATORS];
-    orbit::index::fill_counter(targets, orders, generators, sites, index, &mut counter);
+    elements::index::fill_counter(targets, orders, generators, sites, index, &mut counter);
     numerator(
         targets,
         orders,

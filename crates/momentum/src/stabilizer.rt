@@ -7,7 +7,7 @@ ghost use Rattle.pauli_word.specs.Bytes.{decode, encode, AcceptedWord};
 ghost use Rattle.action.specs.Index.{orderOf};
 ghost use Rattle.action.specs.Orbit.{reach};
 ghost use Rattle.action.specs.Sector.{modulus as modulusOf};
-ghost use Rattle.orbit.specs.Tables.{generatorsIn, Tables};
+ghost use Rattle.elements.specs.Tables.{generatorsIn, Tables};
 ghost use Rattle.group.specs.Calls.{noWord};
 ghost use Rattle.momentum.specs.Parts.{testOf, traversal, placementWord};
 use crate::phase;
@@ -97,9 +97,9 @@ pub fn canonicalize_with_stabilizer(
     ensures word { λ r. ⌜ r .word ≡ placementWord (generatorsIn generators sites (now (targets .entry)) (now (orders .entry))) (now (modes .entry)) (lettersIn sites (now (word .entry))) ⌝ }
 {
     let mut here = [0u8; WORD_BYTES];
-    orbit::walk::copy(word, &mut here);
+    elements::walk::copy(word, &mut here);
     let mut best = [0u8; WORD_BYTES];
-    orbit::walk::copy(word, &mut best);
+    elements::walk::copy(word, &mut best);
     let mut index = 0;
     let mut fixing = 0;
     let mut i = 0;
@@ -109,8 +109,8 @@ pub fn canonicalize_with_stabilizer(
             Test::Fixes => fixing += 1,
             Test::Moves => {}
         }
-        index = orbit::walk::take_lead(&here, sites, i, &mut best, index);
-        orbit::walk::advance(targets, orders, generators, sites, i, &mut here);
+        index = elements::walk::take_lead(&here, sites, i, &mut best, index);
+        elements::walk::advance(targets, orders, generators, sites, i, &mut here);
         i += 1;
     }
     Traversed {

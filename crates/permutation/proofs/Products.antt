@@ -11,18 +11,18 @@ use borrow.Author.Tests.{lt-ltb, le-ltb}
 use Rattle.outcome.specs.declared.Refusal.the-variants as Refusal
 use Rattle.outcome.specs.Outcome.{answer, refusalOf}
 use Rattle.permutation.specs.Limits.{maxWide}
-use Rattle.permutation.specs.Generators.{productOf}
+use Rattle.action.specs.Arithmetic.{product}
 use Rattle.permutation.specs.Parts.{productOutcome}
 
 -- the product of the first orders, and one more
-pub product-next : (orders : List ℕ) (g : ℕ) → g < length orders → productOf (take (suc g) orders) ≡ productOf (take g orders) * getD orders g 0
-unfolding productOf
+pub product-next : (orders : List ℕ) (g : ℕ) → g < length orders → product (take (suc g) orders) ≡ product (take g orders) * getD orders g 0
+unfolding product
 product-next [] g h = absurd (not-suc-le-zero h)
 product-next (o ∷ orders) zero h = omega arith
 product-next (o ∷ orders) (suc g) h = rw (mul-assoc, product-next orders g (le-of-suc-le-suc h))
 
-product-positive : (orders : List ℕ) (k : ℕ) → k ≤ length orders → ((g : ℕ) → g < k → 0 < getD orders g 0) → 0 < productOf (take k orders)
-unfolding productOf
+product-positive : (orders : List ℕ) (k : ℕ) → k ≤ length orders → ((g : ℕ) → g < k → 0 < getD orders g 0) → 0 < product (take k orders)
+unfolding product
 product-positive [] k l h = rw take-nil (zero-lt-suc 0)
 product-positive (o ∷ orders) zero l h = zero-lt-suc 0
 product-positive (o ∷ orders) (suc k) l h = mul-pos (h 0 (zero-lt-suc k)) (product-positive orders k (le-of-suc-le-suc l) (λ g m. h (suc g) (omega arith)))
@@ -30,8 +30,8 @@ product-positive (o ∷ orders) (suc k) l h = mul-pos (h 0 (zero-lt-suc k)) (pro
 -- the first orders have a product that is at most that of more of them
 product-grows :
     (orders : List ℕ) (g k : ℕ) → g ≤ k → k ≤ length orders → ((j : ℕ) → j < k → 0 < getD orders j 0)
-    → productOf (take g orders) ≤ productOf (take k orders)
-unfolding productOf
+    → product (take g orders) ≤ product (take k orders)
+unfolding product
 product-grows orders zero k m l h = product-positive orders k l h
 product-grows [] (suc g) k m l h = absurd (omega arith)
 product-grows (o ∷ orders) (suc g) zero m l h = absurd (not-suc-le-zero m)
@@ -41,20 +41,20 @@ product-grows (o ∷ orders) (suc g) (suc k) m l h =
 -- the product of the first orders is beyond what the next order may be multiplied with
 pub product-overflow :
     (orders : List ℕ) (k : ℕ) → k ≤ length orders → ((g : ℕ) → g < k → 0 < getD orders g 0)
-    → (g : ℕ) → g < k → maxWide / getD orders g 0 < productOf (take g orders) → productOutcome (take k orders) ≡ refusalOf Refusal.GroupOrderOverflow
+    → (g : ℕ) → g < k → maxWide / getD orders g 0 < product (take g orders) → productOutcome (take k orders) ≡ refusalOf Refusal.GroupOrderOverflow
 unfolding productOutcome
 product-overflow orders k long positive g h over =
     let beyond = div-lt-iff-lt-mul (positive g h) .0 over in
     let next = product-next orders g (omega arith) in
-    simp (lt-ltb maxWide (productOf (take k orders)) (omega (arith, product-grows orders (suc g) k h long positive)))
+    simp (lt-ltb maxWide (product (take k orders)) (omega (arith, product-grows orders (suc g) k h long positive)))
 
-pub product-fits : (orders : List ℕ) → productOf orders ≤ maxWide → productOutcome orders ≡ answer (productOf orders)
+pub product-fits : (orders : List ℕ) → product orders ≤ maxWide → productOutcome orders ≡ answer (product orders)
 unfolding productOutcome
-product-fits orders h = simp (le-ltb maxWide (productOf orders) h)
+product-fits orders h = simp (le-ltb maxWide (product orders) h)
 
 -- an order is at most the product
 pub product-holds :
-    (orders : List ℕ) → ((g : ℕ) → g < length orders → 0 < getD orders g 0) → (g : ℕ) → g < length orders → getD orders g 0 ≤ productOf orders
+    (orders : List ℕ) → ((g : ℕ) → g < length orders → 0 < getD orders g 0) → (g : ℕ) → g < length orders → getD orders g 0 ≤ product orders
 product-holds orders positive g h =
     let o : ℕ = getD orders g 0 in
     omega (
@@ -62,5 +62,5 @@ product-holds orders positive g h =
       mul-le-mul-right o (product-positive orders g (le-of-lt h) (λ j l. positive j (omega arith))),
       product-next orders g h,
       product-grows orders (suc g) (length orders) h (le-refl (length orders)) positive,
-      ap productOf (take-length orders),
+      ap product (take-length orders),
     )

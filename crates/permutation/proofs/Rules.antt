@@ -19,7 +19,8 @@ use Rattle.outcome.specs.declared.Refusal.the-variants as Refusal
 use Rattle.outcome.proofs.Outcomes.{verdict-fine}
 use Rattle.outcome.specs.Outcome.{answer, Check, verdict}
 use Rattle.permutation.specs.Limits.{maxOrder, maxDeclared, maxWide}
-use Rattle.permutation.specs.Generators.{fine, broke, among, targetsCheck, permCheck, permsCheck, orNext, orderCheck, ordersCheck, commuteAt, withRight, pairsCheck, productOf, orderOverflow, orderLimit, groupChecks, declared}
+use Rattle.action.specs.Arithmetic.{product}
+use Rattle.permutation.specs.Generators.{fine, broke, among, targetsCheck, permCheck, permsCheck, orNext, orderCheck, ordersCheck, commuteAt, withRight, pairsCheck, orderOverflow, orderLimit, groupChecks, declared}
 use Rattle.permutation.proofs.Pairs.{commuteAt-true, of-commuteAt}
 use Rattle.permutation.proofs.Products.{product-holds}
 
@@ -254,8 +255,8 @@ of-declared-member (p ∷ perms) (o ∷ orders) x (inr m) =
     let (g, l, e) = of-declared-member perms orders x m in
     (suc g, suc-le-suc l, e)
 
-pub product-order : (perms : List (List ℕ)) (orders : List ℕ) → length perms ≡ length orders → productOf orders ≡ orderOf (declared perms orders)
-unfolding productOf orderOf declared
+pub product-order : (perms : List (List ℕ)) (orders : List ℕ) → length perms ≡ length orders → product orders ≡ orderOf (declared perms orders)
+unfolding product orderOf declared
 product-order [] [] s = refl
 product-order [] (o ∷ orders) s = absurd (omega arith)
 product-order (p ∷ perms) [] s = absurd (omega arith)
@@ -289,7 +290,7 @@ valid-of-checks n perms orders h same =
             let (j, r, d) = of-declared-member perms orders y k in
             rw (e, d) (pairs-fine n 0 perms (eleven .0) (getD perms g []) (getD perms j []) (member-at perms [] g l) (member-at perms [] j r));
       },
-      rw (← product-order perms orders same) (ltb-false maxOrder (productOf orders) (thirteen .0)),
+      rw (← product-order perms orders same) (ltb-false maxOrder (product orders) (thirteen .0)),
     )
 
 pub checks-of-valid :
@@ -300,11 +301,11 @@ checks-of-valid n perms orders ok small same =
       permutes-perms n 0 perms permutes,
       exact-orders 0 perms orders exact,
       commute-pairs n 0 perms commute,
-      le-ltb maxWide (productOf orders) (le-trans fits (omega arith)),
-      le-ltb maxOrder (productOf orders) fits,
+      le-ltb maxWide (product orders) (le-trans fits (omega arith)),
+      le-ltb maxOrder (product orders) fits,
     )
   where
-    fits : productOf orders ≤ maxOrder
+    fits : product orders ≤ maxOrder
     fits = rw (product-order perms orders same) small
 
     at : (g : ℕ) → g < length perms → Member (declaredAt perms orders g) (declared perms orders)

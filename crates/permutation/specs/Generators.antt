@@ -11,6 +11,7 @@ use Rattle.outcome.specs.Outcome.{Check, rule}
 use Rattle.action.specs.Lists.{below, every}
 use Rattle.action.specs.Permutation.{Generator, target, exactOrder}
 use Rattle.permutation.specs.Limits.{maxGenerators, maxOrder, maxDeclared, maxWide}
+use Rattle.action.specs.Arithmetic.{product}
 
 -- ---- the list: each generator its length and then its targets
 
@@ -126,18 +127,13 @@ pairsCheck n l (perm ∷ perms) = orNext (withRight n l (suc l) perm perms) (pai
 
 -- ---- 12 and 13
 
--- the product of the declared orders
-unfoldable pub productOf : List ℕ → ℕ
-productOf [] = 1
-productOf (o ∷ orders) = o * productOf orders
-
 -- 12: the group order exceeds 2^64 - 1
 abbrev pub orderOverflow : List ℕ → Check
-orderOverflow orders = rule Refusal.GroupOrderOverflow (ltb maxWide (productOf orders))
+orderOverflow orders = rule Refusal.GroupOrderOverflow (ltb maxWide (product orders))
 
 -- 13: the group order exceeds 1,048,576
 abbrev pub orderLimit : List ℕ → Check
-orderLimit orders = rule Refusal.GroupOrderLimit (ltb maxOrder (productOf orders))
+orderLimit orders = rule Refusal.GroupOrderLimit (ltb maxOrder (product orders))
 
 -- 8 to 13, of permutations of n sites
 abbrev pub groupChecks : ℕ → List (List ℕ) → List ℕ → List Check

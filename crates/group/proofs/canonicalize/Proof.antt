@@ -3,11 +3,9 @@ use Prim.Native.Nat.{ℕ}
 use mathlib.Core.Path.{_≡_, sym, ap, _∙_}
 use mathlib.Core.List.{List}
 use denote.Ref.{now}
-use Rattle.pauli_word.specs.Limits.{planeLength}
 use Rattle.outcome.specs.Outcome.{answer, verdict, onAnswer, orElse}
-use Rattle.pauli_word.specs.Bytes.{decode, encode}
 use Rattle.pauli_word.proofs.Planes.{bytes-of}
-use Rattle.pauli_word.proofs.Checks.{call-answers}
+use Rattle.outcome.proofs.Outcomes.{call-answers}
 use Rattle.action.specs.Orbit.{least}
 use Rattle.group.specs.declared.Group.{Group}
 use Rattle.outcome.specs.declared.Refusal.{Refusal}

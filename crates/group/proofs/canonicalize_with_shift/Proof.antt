@@ -4,9 +4,7 @@ use mathlib.Core.Path.{_≡_, sym, ap, _∙_}
 use mathlib.Core.List.{List, [], _∷_, _++_}
 use lib.ListN.{length}
 use denote.Ref.{now}
-use Rattle.pauli_word.specs.Limits.{planeLength}
 use Rattle.outcome.specs.Outcome.{answer, verdict, onAnswer, orElse}
-use Rattle.pauli_word.specs.Bytes.{decode}
 use Rattle.pauli_word.proofs.Planes.{bytes-of}
 use Rattle.action.specs.Index.{digits}
 use Rattle.action.specs.Orbit.{least, indexBack}

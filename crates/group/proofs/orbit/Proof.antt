@@ -4,7 +4,7 @@ use mathlib.Core.Path.{_≡_, sym, ap, _∙_}
 use mathlib.Core.List.{List}
 use denote.Ref.{now}
 use Rattle.outcome.specs.Outcome.{answer, verdict, onAnswer, orElse}
-use Rattle.pauli_word.proofs.Checks.{call-answers}
+use Rattle.outcome.proofs.Outcomes.{call-answers}
 use Rattle.group.specs.declared.Group.{Group}
 use Rattle.group.specs.declared.Walk.{Walk}
 use Rattle.outcome.specs.declared.Refusal.{Refusal}

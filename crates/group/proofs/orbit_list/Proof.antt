@@ -4,13 +4,12 @@ use mathlib.Core.Path.{_≡_, sym, ap, _∙_}
 use mathlib.Core.List.{List, [], _∷_, _++_}
 use lib.ListN.{length}
 use denote.Ref.{now}
-use Rattle.pauli_word.specs.Limits.{planeLength, wordLength}
+use Rattle.pauli_word.specs.Limits.{wordLength}
 use Rattle.outcome.specs.Outcome.{answer, verdict, onAnswer, orElse}
-use Rattle.pauli_word.specs.Bytes.{decode}
 use Rattle.pauli_word.proofs.Planes.{bytes-of}
 use Rattle.action.specs.Index.{orderOf}
 use Rattle.action.specs.Orbit.{orbitList}
-use Rattle.orbit.specs.Tables.{encodeAll}
+use Rattle.elements.specs.Tables.{encodeAll}
 use Rattle.group.specs.declared.Group.{Group}
 use Rattle.outcome.specs.declared.Refusal.{Refusal}
 use Rattle.group.specs.Value.{generatorsOf}

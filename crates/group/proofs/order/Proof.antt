@@ -1,7 +1,7 @@
 -- `order` meets its contract: the checks pass or refuse, and the order of an accepted group is what it answers.
 use mathlib.Core.Path.{sym, ap, _∙_}
 use Rattle.outcome.specs.Outcome.{answer}
-use Rattle.pauli_word.proofs.Checks.{call-answers}
+use Rattle.outcome.proofs.Outcomes.{call-answers}
 use Rattle.action.specs.Index.{orderOf}
 use Rattle.group.specs.Value.{generatorsOf}
 use Rattle.group.specs.Calls.{valueChecks, orderOutcome}

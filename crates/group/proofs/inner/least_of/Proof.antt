@@ -4,7 +4,7 @@ use mathlib.Core.Path.{ap, _∙_}
 use Rattle.action.specs.Index.{inverse}
 use Rattle.action.specs.Orbit.{indexBack}
 use Rattle.group.specs.Value.{generatorsOf}
-use Rattle.orbit.specs.Tables.{Tables}
+use Rattle.elements.specs.Tables.{Tables}
 use Rattle.group.proofs.Accepted.{accepted-tables}
 use borrow.Author.Needs.{needs}
 use Rattle.group.proofs.inner.least_of.Statement.{statement}

@@ -7,15 +7,14 @@ use native.Mathlib.Omega.{arith}
 use lib.ListN.{length, take, drop}
 use lib.Seq.{length-take-le}
 use denote.Ref.{now}
-use Rattle.outcome.specs.Outcome.{verdict, onAnswer, orElse}
+use Rattle.outcome.specs.Outcome.{verdict, onAnswer, orElse, outcomeOfVerdict}
 use Rattle.permutation.specs.Limits.{maxGenerators}
 use Rattle.permutation.specs.Generators.{permsOf, permsCheck, groupChecks, rowsOf}
 use Rattle.generators.specs.Tables.{filled, placedAll}
-use Rattle.generators.specs.Parts.{outcomeOfVerdict}
 use Rattle.generators.proofs.Zeros.{blank, drop-blank}
 use Rattle.generators.proofs.Placed.{filled-length}
 use Rattle.generators.proofs.Rows.{rows-permute}
-use Rattle.generators.proofs.Verdicts.{answered-fine}
+use Rattle.outcome.proofs.Outcomes.{answered-fine}
 use Rattle.group.specs.Value.{noGroup}
 use Rattle.group.specs.Calls.{done, itself}
 use Rattle.group.proofs.Making.{same-group, tryChecks, refused-made, answered-made, perms-refused, group-decides, rows-filled, orders-filled}

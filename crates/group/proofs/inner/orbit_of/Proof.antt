@@ -7,7 +7,7 @@ use denote.Ref.{now}
 use Rattle.outcome.specs.Outcome.{onAnswer, orElse}
 use Rattle.group.specs.Value.{generatorsOf}
 use Rattle.group.specs.Calls.{done}
-use Rattle.orbit.specs.Tables.{Tables, encodeAll}
+use Rattle.elements.specs.Tables.{Tables, encodeAll}
 use Rattle.group.proofs.Accepted.{accepted-tables}
 use Rattle.group.proofs.Outcomes.{orbit-length, orbit-answer}
 use borrow.Author.Needs.{needs}

@@ -8,7 +8,7 @@ use Rattle.outcome.specs.Outcome.{onAnswer, orElse}
 use Rattle.action.specs.Index.{digits}
 use Rattle.group.specs.Value.{generatorsOf}
 use Rattle.group.specs.Calls.{done, wordOf, shiftOf, noWord}
-use Rattle.orbit.specs.Tables.{Tables}
+use Rattle.elements.specs.Tables.{Tables}
 use Rattle.group.proofs.Accepted.{accepted-tables}
 use Rattle.group.proofs.Outcomes.{overwritten, shift-length, shift-answer}
 use borrow.Author.Needs.{needs}

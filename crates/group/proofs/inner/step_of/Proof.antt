@@ -8,11 +8,10 @@ use native.Mathlib.Omega.{arith}
 use lib.ListN.{getD}
 use mir.Syntax.{w8}
 use mir.Val.{Fits}
-use Rattle.pauli_word.specs.Limits.{planeLength}
 use Rattle.outcome.specs.Outcome.{orElse}
 use Rattle.pauli_word.specs.Bytes.{AcceptedWord}
 use Rattle.pauli_word.proofs.Planes.{bytes-of}
-use Rattle.orbit.specs.Tables.{Tables}
+use Rattle.elements.specs.Tables.{Tables}
 use Rattle.group.specs.Value.{generatorsOf}
 use Rattle.group.specs.Calls.{noWord, entryWord, afterEntry}
 use Rattle.group.proofs.Accepted.{accepted-tables, walk-group, walk-word}

@@ -5,7 +5,8 @@ use mathlib.Core.Bool.{true}
 use native.Mathlib.Omega.{arith}
 use borrow.Author.Tests.{leb-true}
 use Rattle.pauli_word.specs.Limits.{maxSites}
-use Rattle.pauli_word.specs.Calls.{clearAbove, outcomeOfVerdict}
+use Rattle.outcome.specs.Outcome.{outcomeOfVerdict}
+use Rattle.pauli_word.specs.Calls.{clearAbove}
 use Rattle.group.specs.Value.{AcceptedGroup}
 use Rattle.group.specs.Parts.{outcomeOfVerdict}
 use Rattle.group.proofs.CallLaws.{value-accepted}

@@ -3,7 +3,7 @@ use mathlib.Core.Path.{_≡_, sym, ap, _∙_}
 use mathlib.Core.Bool.{true}
 use denote.Ref.{now}
 use borrow.Author.Tests.{not-true, not-false}
-use Rattle.pauli_word.specs.Calls.{outcomeOfVerdict}
+use Rattle.outcome.specs.Outcome.{outcomeOfVerdict}
 use Rattle.group.specs.Value.{isGroup}
 use Rattle.group.proofs.Values.{word-clear, word-above, group-many, word-many, group-other, other-length, other-sites, bit-above, word-passes}
 use borrow.Author.Needs.{needs}

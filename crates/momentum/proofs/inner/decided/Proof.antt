@@ -7,7 +7,7 @@ use denote.Ref.{now}
 use borrow.Author.Needs.{needs}
 use Rattle.outcome.specs.Outcome.{onAnswer, orElse}
 use Rattle.action.specs.Index.{digits}
-use Rattle.orbit.specs.Tables.{Tables}
+use Rattle.elements.specs.Tables.{Tables}
 use Rattle.group.specs.Value.{generatorsOf}
 use Rattle.group.specs.Calls.{noWord}
 use Rattle.group.proofs.Accepted.{accepted-tables}

@@ -5,7 +5,7 @@ use denote.Ref.{now}
 use borrow.Author.Needs.{needs}
 use Rattle.pauli_word.specs.Limits.{planeLength}
 use Rattle.pauli_word.specs.Bytes.{decode}
-use Rattle.orbit.specs.Tables.{Tables}
+use Rattle.elements.specs.Tables.{Tables}
 use Rattle.group.specs.Value.{generatorsOf}
 use Rattle.group.proofs.Accepted.{accepted-tables}
 use Rattle.momentum.proofs.Traversals.{dropped-placement, dropped-word, kept-positive, kept-placement}

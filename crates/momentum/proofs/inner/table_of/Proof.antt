@@ -4,7 +4,7 @@ use lib.ListN.{length}
 use denote.Ref.{now}
 use borrow.Author.Needs.{needs}
 use Rattle.outcome.specs.Outcome.{onAnswer, orElse}
-use Rattle.orbit.specs.Tables.{Tables}
+use Rattle.elements.specs.Tables.{Tables}
 use Rattle.group.specs.Value.{generatorsOf}
 use Rattle.group.specs.Calls.{done, itself}
 use Rattle.group.proofs.Accepted.{accepted-tables}

@@ -11,9 +11,9 @@ use Rattle.pauli_word.specs.Bytes.{decode, encode, AcceptedWord}
 use Rattle.pauli_word.proofs.Words.{decode-length}
 use Rattle.action.specs.Index.{orderOf}
 use Rattle.action.specs.Orbit.{reach, firstAt}
-use Rattle.orbit.specs.Tables.{generatorsIn}
-use Rattle.orbit.proofs.Orbits.{entries, walk-start, walk-accepted, walk-next}
-use Rattle.orbit.proofs.Leads.{lead, lead-start, place-start, lead-accepted, lead-bytes, lead-place, lead-end, place-end}
+use Rattle.elements.specs.Tables.{generatorsIn}
+use Rattle.elements.proofs.Orbits.{entries, walk-start, walk-accepted, walk-next}
+use Rattle.elements.proofs.Leads.{lead, lead-start, place-start, lead-accepted, lead-bytes, lead-place, lead-end, place-end}
 use Rattle.momentum.proofs.Traversals.{Passed, passed-start, passed-few, passed-moves, passed-fixes, traversal-kept, word-kept, traversal-broken, word-broken}
 use Rattle.momentum.proofs.stabilizer.canonicalize_with_stabilizer.Statement.{statement}
 use Rattle.momentum.proofs.stabilizer.canonicalize_with_stabilizer.Tie as tie

@@ -8,7 +8,7 @@ use borrow.Author.Needs.{needs}
 use Rattle.pauli_word.specs.Limits.{planeLength}
 use Rattle.pauli_word.specs.Bytes.{decode}
 use Rattle.action.specs.Orbit.{fixes}
-use Rattle.orbit.specs.Tables.{generatorsIn}
+use Rattle.elements.specs.Tables.{generatorsIn}
 use Rattle.momentum.proofs.Traversals.{test-moves, test-fixes, test-breaks, bytes-fixed, bytes-moved}
 use Rattle.momentum.proofs.stabilizer.tested.Statement.{statement}
 use Rattle.momentum.proofs.stabilizer.tested.Tie as tie

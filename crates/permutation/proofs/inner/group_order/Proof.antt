@@ -8,19 +8,19 @@ use lib.ListN.{take, getD}
 use denote.Ref.{now}
 use Rattle.outcome.specs.Outcome.{answer}
 use Rattle.permutation.specs.Limits.{maxWide}
-use Rattle.permutation.specs.Generators.{productOf}
+use Rattle.action.specs.Arithmetic.{product}
 use Rattle.permutation.proofs.Products.{product-next, product-overflow, product-fits}
 use Rattle.permutation.proofs.inner.group_order.Statement.{statement}
 use Rattle.permutation.proofs.inner.group_order.Tie as tie
 
 abbrev Inv-loop : tie.InvT-loop
-Inv-loop orders generators order₀ g₀ order g = (g ≤ generators) × (order ≤ maxWide) × (order ≡ productOf (take g orders))
+Inv-loop orders generators order₀ g₀ order g = (g ≤ generators) × (order ≤ maxWide) × (order ≡ product (take g orders))
 
 abbrev μ-loop : tie.MeasureT-loop
 μ-loop orders generators order₀ g₀ order g = generators - g
 
 loop-holds : tie.Need-loop-holds Inv-loop μ-loop
-unfolding productOf
+unfolding product
 loop-holds c = (omega arith, omega arith, refl)
 
 mul-o : tie.Need-mul-o Inv-loop μ-loop
@@ -69,7 +69,7 @@ returns-2 c =
     let s = c .before .before in
     let l = c .before .loop in
     let e : l .g ≡ s .args .generators = omega arith in
-    let whole = l .inv .2 ∙ ap (λ (g : ℕ). productOf (take g (now (s .args .orders)))) e in
+    let whole = l .inv .2 ∙ ap (λ (g : ℕ). product (take g (now (s .args .orders)))) e in
     ap answer whole ∙ sym (product-fits (take (s .args .generators) (now (s .args .orders))) (omega arith))
 
 pub group-order-spec : {M : Type 1} → statement M

@@ -9,7 +9,7 @@ use borrow.Author.Tests.{leb-true}
 use lib.ListN.{length, take, drop, length-drop}
 use Rattle.pauli_word.specs.Limits.{maxSites}
 use Rattle.pauli_word.proofs.Words.{rest-part}
-use Rattle.orbit.specs.Tables.{Tables}
+use Rattle.elements.specs.Tables.{Tables}
 use Rattle.group.specs.Value.{generatorsOf}
 use Rattle.group.proofs.Accepted.{accepted-tables}
 use Rattle.text.specs.Text.{lineEnd, before}
