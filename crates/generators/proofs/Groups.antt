@@ -19,7 +19,7 @@ use Rattle.action.specs.Permutation.{Valid}
 use Rattle.action.specs.Index.{orderOf}
 use Rattle.action.proofs.Lists.{member-below, of-member-below, every-intro, every-elim}
 use Rattle.permutation.specs.Limits.{maxGenerators, maxOrder, targetPlaces}
-use Rattle.permutation.specs.Generators.{endsInside, permsOf, generatorCount, counts, permsCheck, groupChecks, generatorChecks, declared, rowAt, rowsOf}
+use Rattle.permutation.specs.Generators.{endsInside, permsOf, generatorCount, counts, permsCheck, groupChecks, generatorChecks, declared, rowAt, rowsOf, written}
 use Rattle.permutation.proofs.Pairs.{rows-length, row-at}
 use Rattle.outcome.proofs.Outcomes.{verdict-fine}
 use Rattle.permutation.proofs.Rules.{valid-of-checks, perms-fine, member-at}
@@ -225,11 +225,6 @@ module _ (n : ℕ) (perms : List (List ℕ)) (orders : List ℕ) (small : n ≤ 
   orders-long = filled-length maxGenerators orders (omega (arith, room, same-count))
 
 -- ---- a list that writes permutations
-
--- each permutation its length and then its targets
-unfoldable pub written : List (List ℕ) → List ℕ
-written [] = []
-written (p ∷ ps) = length p ∷ (p ++ written ps)
 
 pub written-ends : (perms : List (List ℕ)) → endsInside (written perms) ≡ false
 unfolding written

@@ -11,34 +11,30 @@ use native.Mathlib.Omega.{arith}
 use lib.Dec.{ltb}
 use lib.ListN.{length, getD, take, length-map}
 use lib.Seq.{length-take-le}
-use borrow.Author.Tests.{leb-true, le-leb, ltb-true, ltb-false, le-ltb, eq-eqb, not-false}
-use Rattle.pauli_word.specs.Limits.{maxSites, wordLength}
-use Rattle.outcome.specs.Outcome.{Outcome, refused, answer, Check, verdict, given, unless}
-use Rattle.pauli_word.specs.Bytes.{AcceptedWord}
+use borrow.Author.Tests.{ltb-true, ltb-false, le-ltb, eq-eqb, not-false}
+use Rattle.pauli_word.specs.Limits.{maxSites}
+use Rattle.outcome.specs.Outcome.{answer, verdict, given}
 use Rattle.pauli_word.specs.Calls.{siteCount}
 use Rattle.action.specs.Lists.{Member}
 use Rattle.action.specs.Permutation.{Generator, Permutes, Valid}
 use Rattle.action.specs.Index.{orderOf}
 use Rattle.action.proofs.Lists.{of-member-append}
-use Rattle.permutation.specs.Limits.{maxGenerators, maxOrder, maxDeclared, targetPlaces}
-use Rattle.permutation.specs.Generators.{permsOf, listEnd, permsCheck, ordersCheck, pairsCheck, orderOverflow, orderLimit, groupChecks, generatorChecks, declared, rowsOf}
+use Rattle.permutation.specs.Limits.{maxGenerators, maxOrder, maxDeclared}
+use Rattle.permutation.specs.Generators.{permsOf, listEnd, permsCheck, ordersCheck, pairsCheck, orderOverflow, orderLimit, groupChecks, generatorChecks, declared, rowsOf, written}
 use Rattle.permutation.proofs.Pairs.{rows-length}
-use Rattle.outcome.proofs.Outcomes.{verdict-fine}
+use Rattle.outcome.proofs.Outcomes.{verdict-fine, unless-answer}
 use Rattle.permutation.proofs.Rules.{of-member-at, perms-fine, orders-fine, checks-of-valid}
 use Rattle.generators.specs.Tables.{filled, placedAll}
-use Rattle.generators.specs.Parts.{anyZero}
-use Rattle.generators.proofs.Groups.{hold-valid, hold-placed, same-count, placed-rows, placed-orders, placed-hold, placed-long, orders-long, written, written-ends, written-perms}
+use Rattle.generators.specs.Parts.{anyZero, zeroSide, sidesLimit}
+use Rattle.generators.proofs.Groups.{hold-valid, hold-placed, same-count, placed-rows, placed-orders, placed-hold, placed-long, orders-long, written-ends, written-perms}
 use Rattle.elements.proofs.Tables.{generators-of}
 use Rattle.group.specs.declared.Group.{Group}
-use Rattle.group.specs.Value.{groupOf, tryFromOutcome, Fit, GivenBy, generatorsOf, isGroup, AcceptedGroup}
-use Rattle.group.specs.Calls.{zeroSide, sidesLimit, latticeOutcome, wordCallChecks}
-use Rattle.group.proofs.Lattices.{Sized, sized}
+use Rattle.group.specs.Value.{groupOf, tryFromOutcome, Fit, GivenBy, generatorsOf, isGroup, AcceptedGroup, GivenAs}
+use Rattle.group.specs.Calls.{latticeOutcome, axesOutcome}
 use Rattle.group.proofs.Making.{same-group, tablesOf, group-tables}
-
--- the lists of a group value are as long as their places
-pub record Long (g : Group) : Type 0 where
-  pub targets : length (g .targets) ≡ targetPlaces
-  pub orders : length (g .orders) ≡ maxGenerators
+use Rattle.action.specs.Lattice.{shifts}
+use Rattle.action.specs.Arithmetic.{product}
+use Rattle.action.proofs.Theorems.{shifts-valid, shifts-order, shifts-length}
 
 -- generators, taken apart and put together again
 
@@ -46,15 +42,6 @@ pub declared-parts : (gs : List Generator) → declared (map (λ x. x .perm) gs)
 unfolding declared
 declared-parts [] = refl
 declared-parts (g ∷ gs) = ap (λ (l : List Generator). g ∷ l) (declared-parts gs)
-
--- ---- what a call that answers has passed
-
-pub unless-answer : {A : Type 0} (cs : List Check) (a b : A) → unless cs (answer a) ≡ answer b → (verdict cs ≡ answer tt) × (a ≡ b)
-unless-answer cs a b e = go (verdict cs) refl e
-  where
-    go : (v : Outcome (Unit {0})) → verdict cs ≡ v → given v (answer a) ≡ answer b → (verdict cs ≡ answer tt) × (a ≡ b)
-    go (refused k vs) p q = let z : _≡_ {A = ℕ} 0 1 = cc in absurd (omega arith)
-    go (answer tt) p q = (p, cc)
 
 -- ---- generators that break no rule
 
@@ -64,10 +51,14 @@ module _ (n : ℕ) (perms : List (List ℕ)) (orders : List ℕ) (small : n ≤ 
 
   checked-accepted : AcceptedGroup (groupOf n (declared perms orders))
   unfolding isGroup
-  checked-accepted = rw value (record { few = le-leb n maxSites small; isOne = placed-hold n perms orders small fine })
-
-  checked-long : Long (groupOf n (declared perms orders))
-  checked-long = rw value (record { targets = placed-long n perms orders small fine; orders = orders-long n perms orders small fine })
+  checked-accepted =
+      rw value
+      (record {
+        few = small;
+        isOne = placed-hold n perms orders small fine;
+        targets = placed-long n perms orders small fine;
+        orders = orders-long n perms orders small fine;
+      })
 
   checked-generators : generatorsOf (groupOf n (declared perms orders)) ≡ declared perms orders
   unfolding generatorsOf
@@ -94,8 +85,8 @@ module _ (n : ℕ) (list orders : List ℕ) (g : Group) (made : tryFromOutcome n
   rules : verdict (generatorChecks n (permsOf list) orders) ≡ answer tt
   rules = verdict-fine (listEnd list) (generatorChecks n (permsOf list) orders) (one .1) .1
 
-  pub made-accepted : AcceptedGroup g × Long g
-  made-accepted = rw (← passed .1) (checked-accepted n (permsOf list) orders few rules, checked-long n (permsOf list) orders few rules)
+  pub made-accepted : AcceptedGroup g
+  made-accepted = rw (← passed .1) (checked-accepted n (permsOf list) orders few rules)
 
   pub made-means : (g .sites ≡ n) × (generatorsOf g ≡ declared (permsOf list) orders)
   unfolding groupOf
@@ -162,49 +153,37 @@ module _ (n : ℕ) (perms : List (List ℕ)) (orders : List ℕ) (few : n ≤ ma
       let eight = verdict-fine (ordersCheck 0 perms orders) (pairsCheck n 0 perms ∷ orderOverflow orders ∷ orderLimit orders ∷ []) (five .1) in
       omega (arith, e, orders-fine 0 perms orders (eight .0) same g (rw same l) .1)
 
--- ---- lattices: three sides of n sites, and generators that are valid where no side is 0 and the sites are few
+-- ---- lattices
 
-pub lattice-generators :
-    (a b c n : ℕ) (gs : List Generator) (g : Group) → a * b * c ≡ n → latticeOutcome (anyZero a b c) n gs ≡ answer g → length gs ≤ maxGenerators
-    → (Sized a b c n → Valid n gs × (orderOf gs ≤ maxSites)) → tryFromOutcome n (written (map (λ x. x .perm) gs)) (map (λ x. x .order) gs) ≡ answer g
-unfolding latticeOutcome
-lattice-generators a b c n gs g e made room law =
+pub axes-generators : (a b c k : ℕ) (g : Group) → k ≤ 3 → axesOutcome a b c k ≡ answer g
+    → GivenAs (a * b * c) (shifts (a * b * c) 1 (take k (a ∷ b ∷ c ∷ []))) g
+unfolding axesOutcome latticeOutcome
+axes-generators a b c k g room made =
+    let n : ℕ = a * b * c in
+    let sides : List ℕ = take k (a ∷ b ∷ c ∷ []) in
+    let gs : List Generator = shifts n 1 sides in
     let (passes, same) = unless-answer (zeroSide (anyZero a b c) ∷ sidesLimit n ∷ []) (groupOf n gs) g made in
     let (some, rest) = verdict-fine (zeroSide (anyZero a b c)) (sidesLimit n ∷ []) passes in
     let few : n ≤ maxSites = ltb-false maxSites n (verdict-fine (sidesLimit n) [] rest .0) in
-    let positive : 0 < a * b * c = ltb-true 0 (a * b * c) (not-false (ltb 0 (a * b * c)) some) in
-    let sizes : Sized a b c n = rw (← e) (sized a b c positive (omega arith)) in
-    let (valid, small) = law sizes in
-    generators-made n gs few room valid (omega arith) ∙ ap answer same
+    let positive : 0 < n = ltb-true 0 n (not-false (ltb 0 n) some) in
+    let within = sides-within a b c k positive in
+    let whole : 1 * product sides * product (drop k (a ∷ b ∷ c ∷ [])) ≡ n = ?whole in
+    generators-made n gs few (omega (arith, shifts-length n 1 sides, length-take k (a ∷ b ∷ c ∷ [])))
+    (shifts-valid positive 1 sides (product (drop k (a ∷ b ∷ c ∷ []))) whole) (omega (arith, shifts-order n 1 sides, within .1))
+    ∙ ap answer same
 
 -- ---- a value that is a group
 
--- an accepted word of its sites passes with it
-pub word-passes :
-    (g : Group) → AcceptedGroup g → (bytes : List ℕ) → AcceptedWord (g .sites) bytes → verdict (wordCallChecks g (g .sites) bytes) ≡ answer tt
-word-passes g ok bytes word =
-    simp (
-      le-ltb maxSites (g .sites) (leb-true (g .sites) maxSites (ok .few)),
-      ok .isOne,
-      eq-eqb (length bytes) wordLength (word .long),
-      eq-eqb (g .sites) (g .sites) refl,
-      word .xClear,
-      word .zClear,
-    )
-
-module _ (g : Group) (ok : AcceptedGroup g) (long : Long g) where
-  sites-few : g .sites ≤ maxSites
-  sites-few = leb-true (g .sites) maxSites (ok .few)
-
+module _ (g : Group) (ok : AcceptedGroup g) where
   -- what it holds
   held : Valid (g .sites) (generatorsOf g) × (orderOf (generatorsOf g) ≤ maxOrder) × (g .generators ≤ maxGenerators)
   unfolding isGroup generatorsOf
-  held = hold-valid (g .generators) (g .sites) (g .targets) (g .orders) (ok .isOne) (long .orders)
+  held = hold-valid (g .generators) (g .sites) (g .targets) (g .orders) (ok .isOne) (ok .orders)
 
   counted : length (rowsOf (g .generators) (g .sites) (g .targets)) ≡ length (take (g .generators) (g .orders))
   counted =
       rows-length (g .generators) (g .sites) (g .targets)
-      ∙ sym (length-take-le (g .generators) (g .orders) (omega (arith, held .2, long .orders)))
+      ∙ sym (length-take-le (g .generators) (g .orders) (omega (arith, held .2, ok .orders)))
 
   -- it is the value of the generators that it holds
   held-value : groupOf (g .sites) (declared (rowsOf (g .generators) (g .sites) (g .targets)) (take (g .generators) (g .orders))) ≡ g
@@ -212,7 +191,7 @@ module _ (g : Group) (ok : AcceptedGroup g) (long : Long g) where
   held-value =
       let rows : List (List ℕ) = rowsOf (g .generators) (g .sites) (g .targets) in
       let (targets, orders) =
-      hold-placed (g .generators) (g .sites) (g .targets) (g .orders) (ok .isOne) sites-few (long .targets) (long .orders)
+      hold-placed (g .generators) (g .sites) (g .targets) (g .orders) (ok .isOne) (ok .few) (ok .targets) (ok .orders)
       in
       let many = rows-length (g .generators) (g .sites) (g .targets) in
       group-tables (g .sites) rows (take (g .generators) (g .orders)) counted
@@ -231,7 +210,7 @@ module _ (g : Group) (ok : AcceptedGroup g) (long : Long g) where
       record {
         list = written perms;
         orders = orders;
-        listFits = list-fits (g .sites) perms orders sites-few counted pass;
-        ordersFit = orders-fit (g .sites) perms orders sites-few counted pass;
-        given = valid-made (g .sites) perms orders sites-few room counted (held .0) (held .1) ∙ ap answer held-value;
+        listFits = list-fits (g .sites) perms orders (ok .few) counted pass;
+        ordersFit = orders-fit (g .sites) perms orders (ok .few) counted pass;
+        given = valid-made (g .sites) perms orders (ok .few) room counted (held .0) (held .1) ∙ ap answer held-value;
       }

@@ -2,32 +2,29 @@
 -- What carries it: the tables of generators that break no rule have those generators for their rows.
 use Prim.Native.Nat.{ℕ, _-_, _≤_, _<_}
 use mathlib.Core.Path.{_≡_, refl, sym, ap, ap₂, _∙_}
-use mathlib.Core.Bool.{Bool, true, false, cond, false≢true}
+use mathlib.Core.Bool.{true, false}
 use mathlib.Core.List.{List, [], _∷_, map}
 use native.Mathlib.Nat.{suc-inj, suc-ne-zero}
-use native.Mathlib.Omega.{arith}
 use lib.ListN.{length, take, length-map}
 use lib.Seq.{take-at}
 use borrow.Author.Tests.{lt-ltb, le-ltb, eq-eqb, ne-eqb}
 use Rattle.pauli_word.specs.Limits.{maxSites}
-use Rattle.outcome.specs.Outcome.{Outcome, refused, answer, Check, verdict, given, onAnswer, orElse, answers, refusalOf, alone}
+use Rattle.outcome.specs.Outcome.{answer, Check, verdict, onAnswer, orElse, refusalOf, alone, done, itself, outcomeOfVerdict}
 use Rattle.pauli_word.specs.Calls.{siteCount}
-use Rattle.outcome.proofs.Outcomes.{call-answers, refused-broken, first-refuses}
+use Rattle.outcome.proofs.Outcomes.{call-answers, refused-broken, first-refuses, one-refused, one-answered, call-refused}
 use Rattle.permutation.specs.Limits.{maxGenerators}
 use Rattle.permutation.specs.Generators.{endsInside, permsOf, listEnd, permsCheck, groupChecks, generatorChecks, declared, rowsOf}
 use Rattle.permutation.proofs.Rules.{perms-fine}
 use Rattle.outcome.specs.declared.Refusal.{Refusal}
-use Rattle.generators.specs.declared.list.Scan.the-variants as Scan
 use Rattle.generators.specs.Tables.{filled, placedAll}
 use Rattle.generators.specs.Parts.{scanOutcome}
 use Rattle.generators.proofs.Zeros.{blank}
-use Rattle.generators.proofs.Verdicts.{refusal-no-answer}
 use Rattle.generators.proofs.Groups.{rows-placed}
 use Rattle.group.specs.declared.Group.{Group}
-use Rattle.group.specs.declared.Grouped.the-variants as Grouped
+use Rattle.outcome.specs.declared.Refusal.the-variants as Refusal
+use Rattle.outcome.specs.declared.Verdict.the-variants as Verdict
 use Rattle.group.specs.declared.Made.{Made}
 use Rattle.group.specs.Value.{groupOf, noGroup, tryFromOutcome}
-use Rattle.group.specs.Calls.{done, itself, outcomeOfVerdict}
 
 -- ---- the value of generators
 
@@ -61,31 +58,14 @@ group-tables n perms orders e =
 
 -- ---- what a list of generators is found to write
 
-pub scan-inside : (list : List ℕ) → scanOutcome list ≡ Scan.EndsInside → endsInside list ≡ true
-unfolding scanOutcome
-scan-inside list e = go (endsInside list) e
-  where
-    go : (b : Bool) → cond b Scan.EndsInside (Scan.Count (length (permsOf list))) ≡ Scan.EndsInside → b ≡ true
-    go true k = refl
-    go false k = let z : _≡_ {A = ℕ} 0 1 = cc in absurd (omega arith)
+module _ (list : List ℕ) where
+  pub scan-inside : (why : Refusal) → scanOutcome list ≡ refusalOf why → endsInside list ≡ true
+  unfolding scanOutcome
+  scan-inside = one-refused (listEnd list) (length (permsOf list))
 
-pub scan-whole : (list : List ℕ) (k : ℕ) → scanOutcome list ≡ Scan.Count k → (endsInside list ≡ false) × (k ≡ length (permsOf list))
-unfolding scanOutcome
-scan-whole list k e = go (endsInside list) e
-  where
-    go : (b : Bool) → cond b Scan.EndsInside (Scan.Count (length (permsOf list))) ≡ Scan.Count k → (b ≡ false) × (k ≡ length (permsOf list))
-    go true h = let z : _≡_ {A = ℕ} 0 1 = cc in absurd (omega arith)
-    go false h = (refl, cc)
-
--- ---- what stands beside a refusal
-
-refused-stays : {A : Type 0} (v : Outcome (Unit {0})) (o : Outcome A) → answers v ≡ false → v ≡ onAnswer done (given v o)
-refused-stays (refused k vs) o e = refl
-refused-stays (answer t) o e = absurd (false≢true (sym e))
-
-refused-else : {A : Type 0} (v : Outcome (Unit {0})) (o : Outcome A) (z : A) → answers v ≡ false → z ≡ orElse itself z (given v o)
-refused-else (refused k vs) o z e = refl
-refused-else (answer t) o z e = absurd (false≢true (sym e))
+  pub scan-whole : (k : ℕ) → scanOutcome list ≡ answer k → (endsInside list ≡ false) × (k ≡ length (permsOf list))
+  unfolding scanOutcome
+  scan-whole k e = let (whole, many) = one-answered (listEnd list) (length (permsOf list)) k e in (whole, sym many)
 
 -- ---- 1 to 13
 
@@ -94,14 +74,12 @@ module _ (n : ℕ) (list orders : List ℕ) where
   tryChecks = siteCount n ∷ listEnd list ∷ generatorChecks n (permsOf list) orders
 
   pub refused-made :
-      (why : Refusal) → verdict tryChecks ≡ refusalOf why → (r : Made) → r .answer ≡ Grouped.Refused why → r .group ≡ noGroup
+      (why : Refusal) → verdict tryChecks ≡ refusalOf why → (r : Made) → r .answer ≡ Verdict.Refused why → r .group ≡ noGroup
       → (outcomeOfVerdict (r .answer) ≡ onAnswer done (tryFromOutcome n list orders)) × (r .group ≡ orElse itself noGroup (tryFromOutcome n list orders))
   unfolding tryFromOutcome
   refused-made why e r told none =
-      let v = verdict tryChecks in
-      let o = answer (groupOf n (declared (permsOf list) orders)) in
-      let no = ap answers e ∙ refusal-no-answer why in
-      (ap outcomeOfVerdict told ∙ sym e ∙ refused-stays v o no, none ∙ refused-else v o noGroup no)
+      let o = call-refused tryChecks (answer (groupOf n (declared (permsOf list) orders))) why e in
+      (ap outcomeOfVerdict told ∙ sym (ap (onAnswer done) o), none ∙ sym (ap (orElse itself noGroup) o))
 
   pub answered-made :
       length (permsOf list) ≡ length orders → verdict tryChecks ≡ answer tt
@@ -110,19 +88,19 @@ module _ (n : ℕ) (list orders : List ℕ) where
   answered-made same e =
       call-answers tryChecks (answer (groupOf n (declared (permsOf list) orders))) e ∙ ap answer (group-tables n (permsOf list) orders same)
 
-  pub many-sites : maxSites < n → verdict tryChecks ≡ refused 1 []
+  pub many-sites : maxSites < n → verdict tryChecks ≡ refusalOf Refusal.TooManySites
   many-sites h = rw (lt-ltb maxSites n h)
 
   module _ (few : n ≤ maxSites) where
-    pub ends-early : endsInside list ≡ true → verdict tryChecks ≡ refused 2 []
+    pub ends-early : endsInside list ≡ true → verdict tryChecks ≡ refusalOf Refusal.ListEndsInside
     ends-early e = rw (le-ltb maxSites n few, e)
 
     module _ (whole : endsInside list ≡ false) where
-      pub many-generators : maxGenerators < length (permsOf list) → verdict tryChecks ≡ refused 3 []
+      pub many-generators : maxGenerators < length (permsOf list) → verdict tryChecks ≡ refusalOf Refusal.TooManyGenerators
       many-generators h = rw (le-ltb maxSites n few, whole, lt-ltb maxGenerators (length (permsOf list)) h)
 
       module _ (some : length (permsOf list) ≤ maxGenerators) where
-        pub other-count : (length (permsOf list) ≡ length orders → ⊥) → verdict tryChecks ≡ refused 4 (length (permsOf list) ∷ length orders ∷ [])
+        pub other-count : (length (permsOf list) ≡ length orders → ⊥) → verdict tryChecks ≡ refusalOf (Refusal.LengthMismatch (length (permsOf list)) (length orders))
         other-count h =
             rw (
               le-ltb maxSites n few,

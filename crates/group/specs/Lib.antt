@@ -1,4 +1,3 @@
 -- What the contracts of this crate say, in the order to read it.
 pub mod Value
 pub mod Calls
-pub mod Parts

@@ -1,17 +1,17 @@
 -- Group values: what a value holds, which values are groups, and what generators they stand for.
-use Prim.Native.Nat.{ℕ, _≤_}
+use Prim.Native.Nat.{ℕ, suc, _≤_}
 use mathlib.Core.Path.{_≡_}
 use mathlib.Core.Bool.{Bool, true, not}
-use mathlib.Core.List.{List, [], _∷_, map}
-use lib.Dec.{leb}
+use mathlib.Core.List.{List, _∷_, map}
 use lib.ListN.{length, replicate}
 use Rattle.pauli_word.specs.Limits.{maxSites}
-use Rattle.outcome.specs.Outcome.{Outcome, answer, Check, unless}
+use Rattle.outcome.specs.declared.Refusal.the-variants as Refusal
+use Rattle.outcome.specs.Outcome.{Outcome, answer, Check, rule, unless}
 use Rattle.pauli_word.specs.Calls.{siteCount}
 use Rattle.action.specs.Lists.{Member}
 use Rattle.action.specs.Permutation.{Generator}
 use Rattle.permutation.specs.Limits.{maxGenerators, maxDeclared, targetPlaces}
-use Rattle.permutation.specs.Generators.{permsOf, listEnd, generatorChecks, declared}
+use Rattle.permutation.specs.Generators.{permsOf, listEnd, generatorChecks, declared, written}
 use Rattle.generators.specs.Tables.{filled, placedAll, holdGroup}
 use Rattle.elements.specs.Tables.{generatorsIn}
 use Rattle.group.specs.declared.Group.{Group}
@@ -27,9 +27,9 @@ groupOf n gs = record {
   targets = placedAll (map (λ g. g .perm) gs);
 }
 
--- what stands beside a refusal: a value that says 5 generators, which no call takes for a group
+-- what stands beside a refusal: a value that says one generator more than there may be, which no call takes for a group
 unfoldable pub noGroup : Group
-noGroup = record { sites = 0; generators = 5; orders = replicate maxGenerators 0; targets = replicate targetPlaces 0 }
+noGroup = record { sites = 0; generators = suc maxGenerators; orders = replicate maxGenerators 0; targets = replicate targetPlaces 0 }
 
 -- ---- try_from_generators: 1 to 13, then the group
 
@@ -50,6 +50,10 @@ pub record GivenBy (g : Group) : Type 0 where
   pub ordersFit : Fit orders
   pub given : tryFromOutcome (g .sites) list orders ≡ answer g
 
+-- a buyer who writes these generators is given this value
+abbrev pub GivenAs : ℕ → List Generator → Group → Type 0
+GivenAs n gs g = tryFromOutcome n (written (map (λ x. x .perm) gs)) (map (λ x. x .order) gs) ≡ answer g
+
 -- ---- what a value stands for
 
 -- the generators of a value
@@ -64,9 +68,11 @@ isGroup g = holdGroup (g .generators) (g .sites) (g .targets) (g .orders)
 
 -- 14: a group value that no accepted generators give
 abbrev pub notAGroup : Group → Check
-notAGroup g = record { number = 14; values = []; broken = not (isGroup g) }
+notAGroup g = rule Refusal.InvalidValue (not (isGroup g))
 
--- an accepted group
+-- an accepted group: its sites are few, it is a group, and its lists fill their places
 pub record AcceptedGroup (g : Group) : Type 0 where
-  pub few : leb (g .sites) maxSites ≡ true
+  pub few : g .sites ≤ maxSites
   pub isOne : isGroup g ≡ true
+  pub targets : length (g .targets) ≡ targetPlaces
+  pub orders : length (g .orders) ≡ maxGenerators

@@ -78,6 +78,14 @@ module _ {A : Type 0} (cs : List Check) (o : Outcome A) where
 pub front-refused : (cs ds : List Check) (why : Refusal) → verdict cs ≡ refusalOf why → verdict (cs ++ ds) ≡ refusalOf why
 front-refused cs ds why e = verdict-append cs ds ∙ call-refused cs (verdict ds) why e
 
+-- a call that would answer and is refused, is refused by its checks
+pub unless-refused : {A : Type 0} (cs : List Check) (a : A) (why : Refusal) → unless cs (answer a) ≡ refusalOf why → verdict cs ≡ refusalOf why
+unless-refused cs a why e = go (verdict cs) refl e
+  where
+    go : (v : Outcome (Unit {0})) → verdict cs ≡ v → given v (answer a) ≡ refusalOf why → verdict cs ≡ refusalOf why
+    go (refused k vs) p q = cc
+    go (answer tt) p q = absurd (refused-apart _ _ a (sym q))
+
 -- a call that answers has passed its checks
 pub unless-answer : {A : Type 0} (cs : List Check) (a b : A) → unless cs (answer a) ≡ answer b → (verdict cs ≡ answer tt) × (a ≡ b)
 unless-answer cs a b e = go (verdict cs) refl e

@@ -1,7 +1,7 @@
 -- A buyer's generators: the list that writes them, and the rules 2 to 13 that they are checked by.
 use Prim.Native.Nat.{ℕ, zero, suc, _*_}
 use mathlib.Core.Bool.{Bool, true, false, _||_, not, cond}
-use mathlib.Core.List.{List, [], _∷_, map}
+use mathlib.Core.List.{List, [], _∷_, _++_, map}
 use lib.Dec.{ltb, leb, eqb}
 use lib.ListN.{length, take, drop}
 use Rattle.pauli_word.specs.Limits.{maxSites}
@@ -35,6 +35,11 @@ permsWithin (suc f) (n ∷ l) = take n l ∷ permsWithin f (drop n l)
 unfoldable pub permsOf : List ℕ → List (List ℕ)
 unfolding permsWithin
 permsOf list = permsWithin (length list) list
+
+-- the list that writes permutations: each its length and then its targets
+unfoldable pub written : List (List ℕ) → List ℕ
+written [] = []
+written (perm ∷ perms) = length perm ∷ (perm ++ written perms)
 
 -- a rule that is not broken
 abbrev pub fine : Check

@@ -1,14 +1,14 @@
--- `counter_from_index` meets its contract: the checks pass or refuse, and an accepted group is what `inner::counter_of` asks.
+-- `counter_from_index` meets its contract: the checks pass or refuse, and an accepted group is what `index::counter_of` asks.
 use mathlib.Core.Path.{sym, ap, _∙_}
 use mathlib.Core.List.{[], _∷_, _++_}
 use lib.ListN.{length}
 use denote.Ref.{now}
-use Rattle.outcome.specs.Outcome.{answer, onAnswer, orElse}
+use Rattle.outcome.specs.Outcome.{answer, onAnswer, orElse, done, itself, outcomeOfVerdict}
 use Rattle.action.specs.Index.{digits}
 use Rattle.group.specs.Value.{generatorsOf}
-use Rattle.group.specs.Calls.{done, itself, valueChecks, indexRange, listLength, counterOutcome}
-use Rattle.group.specs.Parts.{outcomeOfVerdict}
-use Rattle.group.proofs.CallLaws.{call-refused, front-refused, refusal-stays, refusal-else, value-accepted}
+use Rattle.group.specs.Calls.{valueChecks, indexRange, listLength, counterOutcome}
+use Rattle.outcome.proofs.Outcomes.{call-refused, front-refused}
+use Rattle.group.proofs.Accepted.{value-accepted}
 use borrow.Author.Needs.{needs}
 use Rattle.group.proofs.counter_from_index.Statement.{statement}
 use Rattle.group.proofs.counter_from_index.Tie as tie
@@ -24,8 +24,7 @@ enum-told c = search needs
 
 counter-of-requires : tie.Need-counter-of-requires
 counter-of-requires c κs =
-    value-accepted (c .before .before .before .before .before .args .group)
-    (sym (c .before .before .before .value-checked .ensures) ∙ ap outcomeOfVerdict (c .before .enum-told .given .1))
+    value-accepted (c .before .before .before .before .before .args .group) (search needs) (search needs) (sym (c .before .before .before .value-checked .ensures) ∙ ap outcomeOfVerdict (c .before .enum-told .given .1))
 
 returns : tie.Need-returns
 unfolding counterOutcome
@@ -38,7 +37,7 @@ returns c =
     call-refused (valueChecks (a .group) ++ more) (answer (digits (generatorsOf (a .group)) (a .index))) why
     (front-refused (valueChecks (a .group)) more why (sym (c .before .before .before .value-checked .ensures) ∙ ap outcomeOfVerdict (c .before .why .given .1)))
     in
-    (sym (ap (onAnswer done) e ∙ refusal-stays done why), sym (ap (orElse itself list) e ∙ refusal-else itself list why))
+    (sym (ap (onAnswer done) e), sym (ap (orElse itself list) e))
 
 same-length : tie.Need-same-length
 same-length c = search needs

@@ -1,12 +1,12 @@
--- `invert_index` meets its contract: the checks pass or refuse, and an accepted group is what `inner::inverse_of` asks.
+-- `invert_index` meets its contract: the checks pass or refuse, and an accepted group is what `index::inverse_of` asks.
 use mathlib.Core.Path.{sym, ap, _∙_}
 use mathlib.Core.List.{[], _∷_, _++_}
-use Rattle.outcome.specs.Outcome.{answer}
+use Rattle.outcome.specs.Outcome.{answer, outcomeOfVerdict}
 use Rattle.action.specs.Index.{inverse}
 use Rattle.group.specs.Value.{generatorsOf}
 use Rattle.group.specs.Calls.{valueChecks, indexRange, invertOutcome}
-use Rattle.group.specs.Parts.{outcomeOfVerdict}
-use Rattle.group.proofs.CallLaws.{call-refused, front-refused, value-accepted}
+use Rattle.outcome.proofs.Outcomes.{call-refused, front-refused}
+use Rattle.group.proofs.Accepted.{value-accepted}
 use borrow.Author.Needs.{needs}
 use Rattle.group.proofs.invert_index.Statement.{statement}
 use Rattle.group.proofs.invert_index.Tie as tie
@@ -22,7 +22,7 @@ enum-told c = search needs
 
 inverse-of-requires : tie.Need-inverse-of-requires
 inverse-of-requires c κs =
-    value-accepted (c .before .before .before .args .group) (sym (c .before .before .value-checked .ensures) ∙ ap outcomeOfVerdict (c .enum-told .given .1))
+    value-accepted (c .before .before .before .args .group) (search needs) (search needs) (sym (c .before .before .value-checked .ensures) ∙ ap outcomeOfVerdict (c .enum-told .given .1))
 
 returns : tie.Need-returns
 unfolding invertOutcome

@@ -1,12 +1,11 @@
 -- `phase_modulus` meets its contract: the checks pass or refuse, and the phase modulus of an accepted group is what it answers.
 use mathlib.Core.Path.{sym, ap, _∙_}
-use Rattle.outcome.specs.Outcome.{answer}
-use Rattle.outcome.proofs.Outcomes.{call-answers}
+use Rattle.outcome.specs.Outcome.{answer, outcomeOfVerdict}
+use Rattle.outcome.proofs.Outcomes.{call-answers, call-refused}
 use Rattle.action.specs.Sector.{modulus}
 use Rattle.group.specs.Value.{generatorsOf}
 use Rattle.group.specs.Calls.{valueChecks, modulusOutcome}
-use Rattle.group.specs.Parts.{outcomeOfVerdict}
-use Rattle.group.proofs.CallLaws.{call-refused, value-accepted}
+use Rattle.group.proofs.Accepted.{value-accepted}
 use borrow.Author.Needs.{needs}
 use Rattle.group.proofs.phase_modulus.Statement.{statement}
 use Rattle.group.proofs.phase_modulus.Tie as tie
@@ -22,7 +21,7 @@ enum-told c = search needs
 
 modulus-of-requires : tie.Need-modulus-of-requires
 modulus-of-requires c κs =
-    value-accepted (c .before .before .before .args .group) (sym (c .before .before .value-checked .ensures) ∙ ap outcomeOfVerdict (c .enum-told .given .1))
+    value-accepted (c .before .before .before .args .group) (search needs) (search needs) (sym (c .before .before .value-checked .ensures) ∙ ap outcomeOfVerdict (c .enum-told .given .1))
 
 returns : tie.Need-returns
 unfolding modulusOutcome

@@ -1,4 +1,4 @@
--- `try_from_generators` meets its contract: each refusal is reached by the tests that decide it, and what is left is what `inner::made` does.
+-- `try_from_generators` meets its contract: each refusal is reached by the tests that decide it, and what is left is what `make::made` does.
 use Prim.Native.Nat.{ℕ}
 use mathlib.Core.Path.{_≡_, sym, ap, _∙_}
 use mathlib.Core.Bool.{false}

@@ -44,10 +44,10 @@ returns c =
     sector-refused (a .group) (a .n) (now (a .word)) (now (a .modes)) (length counter) why
     (sym (c .before .before .before .before .word-call-checked .ensures) ∙ ap outcomeOfVerdict (c .before .before .why .given .1))
     in (
-      ap outcomeOfSector (c .no-row .ensures .0) ∙ sym (ap (onAnswer sizeOf) e ∙ refusal-stays sizeOf why),
+      ap outcomeOfSector (c .no-row .ensures .0) ∙ sym (ap (onAnswer sizeOf) e),
       (
-        c .no-row .ensures .1 ∙ sym (ap (orElse rowWord noWord) e ∙ refusal-else rowWord noWord why),
-        sym (ap (orElse (rowCounter counter) counter) e ∙ refusal-else (rowCounter counter) counter why),
+        c .no-row .ensures .1 ∙ sym (ap (orElse rowWord noWord) e),
+        sym (ap (orElse (rowCounter counter) counter) e),
       ),
     )
 

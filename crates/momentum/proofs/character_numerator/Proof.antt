@@ -24,7 +24,7 @@ enum-told c = search needs
 
 numerator-of-requires : tie.Need-numerator-of-requires
 numerator-of-requires c κs =
-    value-accepted (c .before .before .before .before .args .group) (sym (c .before .before .value-checked .ensures) ∙ ap outcomeOfVerdict (c .enum-told .given .1))
+    value-accepted (c .before .before .before .before .args .group) (search needs) (search needs) (sym (c .before .before .value-checked .ensures) ∙ ap outcomeOfVerdict (c .enum-told .given .1))
 
 returns : tie.Need-returns
 unfolding numeratorOutcome

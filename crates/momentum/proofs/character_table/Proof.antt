@@ -25,7 +25,7 @@ enum-told c = search needs
 
 table-of-requires : tie.Need-table-of-requires
 table-of-requires c κs =
-    value-accepted (c .before .before .before .before .before .args .group) (sym (c .before .before .before .value-checked .ensures) ∙ ap outcomeOfVerdict (c .before .enum-told .given .1))
+    value-accepted (c .before .before .before .before .before .args .group) (search needs) (search needs) (sym (c .before .before .before .value-checked .ensures) ∙ ap outcomeOfVerdict (c .before .enum-told .given .1))
 
 returns : tie.Need-returns
 unfolding tableOutcome
@@ -38,7 +38,7 @@ returns c =
     call-refused (valueChecks (a .group) ++ more) (answer (numerators (generatorsOf (a .group)) (now (a .modes)))) why
     (front-refused (valueChecks (a .group)) more why (sym (c .before .before .before .value-checked .ensures) ∙ ap outcomeOfVerdict (c .before .why .given .1)))
     in
-    (sym (ap (onAnswer done) e ∙ refusal-stays done why), sym (ap (orElse itself list) e ∙ refusal-else itself list why))
+    (sym (ap (onAnswer done) e), sym (ap (orElse itself list) e))
 
 same-length : tie.Need-same-length
 same-length c = search needs

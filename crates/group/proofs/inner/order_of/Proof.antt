@@ -8,7 +8,7 @@ use Rattle.group.proofs.inner.order_of.Tie as tie
 
 -- the tables of an accepted group
 tables : (c : tie.Start) → let g = c .args .group in Tables (g .generators) (g .sites) (g .targets) (g .orders)
-tables c = accepted-tables (c .args .group) (c .pre) (search needs) (search needs)
+tables c = accepted-tables (c .args .group) (c .pre)
 
 slice-aggregate-order : tie.Need-slice-aggregate-order
 slice-aggregate-order c = search needs

@@ -1,0 +1,56 @@
+-- `inner::least_of` meets its contract: an accepted group's tables hold its generators (`accepted-tables`), and the index back is the inverse of the
+-- one that was found.
+use mathlib.Core.Path.{ap, _∙_}
+use Rattle.action.specs.Index.{inverse}
+use Rattle.action.specs.Orbit.{indexBack}
+use Rattle.group.specs.Value.{generatorsOf}
+use Rattle.elements.specs.Tables.{Tables}
+use Rattle.group.proofs.Accepted.{accepted-tables}
+use borrow.Author.Needs.{needs}
+use Rattle.orbit.proofs.inner.least_of.Statement.{statement}
+use Rattle.orbit.proofs.inner.least_of.Tie as tie
+
+-- the tables of an accepted group
+tables : (c : tie.Start) → let g = c .args .group in Tables (g .generators) (g .sites) (g .targets) (g .orders)
+tables c = accepted-tables (c .args .group) (c .pre .0) (search needs) (search needs)
+
+order-of-requires : tie.Need-order-of-requires
+order-of-requires c κs = search needs
+
+slice-aggregate-canonicalize-odometer : tie.Need-slice-aggregate-canonicalize-odometer
+slice-aggregate-canonicalize-odometer c = search needs
+
+slice-aggregate-canonicalize-odometer-2 : tie.Need-slice-aggregate-canonicalize-odometer-2
+slice-aggregate-canonicalize-odometer-2 c = search needs
+
+canonicalize-odometer-requires : tie.Need-canonicalize-odometer-requires
+unfolding generatorsOf
+canonicalize-odometer-requires c κs = let s = c .before .before .before .before .before .before in (tables s, (s .pre .1, c .before .before .order-of .ensures))
+
+slice-aggregate-invert : tie.Need-slice-aggregate-invert
+slice-aggregate-invert c = search needs
+
+slice-aggregate-invert-2 : tie.Need-slice-aggregate-invert-2
+slice-aggregate-invert-2 c = search needs
+
+invert-requires : tie.Need-invert-requires
+invert-requires c κs = tables (c .before .before .before .before .before .before .before .before .before)
+
+returns : tie.Need-returns
+unfolding generatorsOf indexBack
+returns c =
+    let found = c .before .before .before .before .canonicalize-odometer .ensures in
+    (found .0, c .before .invert .ensures ∙ ap (inverse (generatorsOf (c .before .before .before .before .before .before .before .before .before .before .before .args .group))) (found .1))
+
+pub least-of-spec : {M : Type 1} → statement M
+least-of-spec =
+    tie.close
+    (tie.spec
+    order-of-requires
+    slice-aggregate-canonicalize-odometer
+    slice-aggregate-canonicalize-odometer-2
+    canonicalize-odometer-requires
+    slice-aggregate-invert
+    slice-aggregate-invert-2
+    invert-requires
+    returns)

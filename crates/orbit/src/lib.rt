@@ -1,0 +1,165 @@
+// What a group does to Pauli words: orbits, least words, the indices that lead back from them, and the walk over an orbit.
+//
+// No call here asks anything of its caller: bad input is refused by number, lent lists are then as they were, and what comes back beside
+// a refusal passes for nothing.
+mod calls;
+pub mod inner;
+mod steps;
+
+ghost use mathlib.Core.Path.{_≡_};
+ghost use lib.ListN.{length};
+ghost use Rattle.outcome.specs.Outcome.{outcomeOfVerdict, outcomeOfNumber, onAnswer, done, itself, orElse};
+ghost use Rattle.pauli_word.specs.Bytes.{bytesOf};
+ghost use Rattle.elements.specs.Tables.{encodeAll};
+ghost use Rattle.orbit.specs.Calls.{outcomeOfStep, canonicalizeOutcome, withIndexOutcome, withShiftOutcome, orbitListOutcome, noWord, beginOutcome, noWalk, nextOutcome, entryWord, afterEntry, wordOf, indexOf, shiftOf};
+use group::Group;
+use outcome::Number;
+use outcome::Refusal;
+use outcome::Verdict;
+use pauli_word::WORD_BYTES;
+
+// The least word beside its answer; zeros beside a refusal.
+pub struct Canonical {
+    pub answer: Verdict,
+    pub word: [u8; WORD_BYTES],
+}
+
+// The least word beside the index that leads from it to the word; zeros beside a refusal.
+pub struct CanonicalIndex {
+    pub answer: Number,
+    pub word: [u8; WORD_BYTES],
+}
+
+// A walk over a word's orbit: the word that the next step gives, and that step's index. After the last entry the index is the order.
+pub struct Walk {
+    pub group: Group,
+    pub word: [u8; WORD_BYTES],
+    pub index: usize,
+}
+
+pub struct Begun {
+    pub answer: Verdict,
+    pub walk: Walk,
+}
+
+pub enum Step {
+    // An entry, by its index; its word stands beside it.
+    Entry(usize),
+    // The walk is over, and is handed back as it was.
+    Finished,
+    Refused(Refusal),
+}
+
+pub struct Stepped {
+    pub answer: Step,
+    pub word: [u8; WORD_BYTES],
+    pub walk: Walk,
+}
+
+// The least word of a word's orbit. Walks the whole orbit.
+pub fn canonicalize(group: Group, n: usize, word: &[u8]) -> Canonical
+    ensures answer { λ r. ⌜ outcomeOfVerdict (r .answer) ≡ onAnswer done (canonicalizeOutcome group n (now (word .entry))) ⌝ }
+    ensures word { λ r. ⌜ r .word ≡ orElse bytesOf noWord (canonicalizeOutcome group n (now (word .entry))) ⌝ }
+{
+    match inner::word_call_checked(group, n, word) {
+        Verdict::Refused(why) => Canonical {
+            answer: Verdict::Refused(why),
+            word: [0u8; WORD_BYTES],
+        },
+        Verdict::Accepted => {
+            let least = inner::least_of(group, word);
+            let found = least.word;
+            Canonical {
+                answer: Verdict::Accepted,
+                word: found,
+            }
+        }
+    }
+}
+
+// The least word of a word's orbit, and the index that leads from it back to the word: the inverse of the smallest one that reaches it.
+pub fn canonicalize_with_index(group: Group, n: usize, word: &[u8]) -> CanonicalIndex
+    ensures answer { λ r. ⌜ outcomeOfNumber (r .answer) ≡ onAnswer indexOf (withIndexOutcome group n (now (word .entry))) ⌝ }
+    ensures word { λ r. ⌜ r .word ≡ orElse wordOf noWord (withIndexOutcome group n (now (word .entry))) ⌝ }
+{
+    match inner::word_call_checked(group, n, word) {
+        Verdict::Refused(why) => CanonicalIndex {
+            answer: Number::Refused(why),
+            word: [0u8; WORD_BYTES],
+        },
+        Verdict::Accepted => {
+            let least = inner::least_of(group, word);
+            let found = least.word;
+            CanonicalIndex {
+                answer: Number::Value(least.index),
+                word: found,
+            }
+        }
+    }
+}
+
+// The same with the counter of that index, into a list with a place for each generator.
+pub fn canonicalize_with_shift(
+    group: Group,
+    n: usize,
+    word: &[u8],
+    counter: &mut [u32],
+) -> Canonical
+    ensures answer { λ r. ⌜ outcomeOfVerdict (r .answer) ≡ onAnswer done (withShiftOutcome group n (now (word .entry)) (length (now (counter .entry)))) ⌝ }
+    ensures word { λ r. ⌜ r .word ≡ orElse wordOf noWord (withShiftOutcome group n (now (word .entry)) (length (now (counter .entry)))) ⌝ }
+    ensures counter { λ _. ⌜ now (counter .exit) ≡ orElse shiftOf (now (counter .entry)) (withShiftOutcome group n (now (word .entry)) (length (now (counter .entry)))) ⌝ }
+{
+    match inner::word_call_checked(group, n, word) {
+        Verdict::Refused(why) => Canonical {
+            answer: Verdict::Refused(why),
+            word: [0u8; WORD_BYTES],
+        },
+        Verdict::Accepted => calls::shift_of(group, word, counter),
+    }
+}
+
+// The orbit list: the bytes of one entry for each index, repeats included, into a list of 64 times the order.
+pub fn orbit_list(group: Group, n: usize, word: &[u8], list: &mut [u8]) -> Verdict
+    ensures answer { λ r. ⌜ outcomeOfVerdict r ≡ onAnswer done (orbitListOutcome group n (now (word .entry)) (length (now (list .entry)))) ⌝ }
+    ensures list { λ _. ⌜ now (list .exit) ≡ orElse encodeAll (now (list .entry)) (orbitListOutcome group n (now (word .entry)) (length (now (list .entry)))) ⌝ }
+{
+    match inner::word_call_checked(group, n, word) {
+        Verdict::Refused(why) => Verdict::Refused(why),
+        Verdict::Accepted => calls::orbit_of(group, word, list),
+    }
+}
+
+// Begins a walk over a word's orbit; a refused beginning hands back a walk that `next` refuses.
+pub fn orbit(group: Group, n: usize, word: &[u8]) -> Begun
+    ensures answer { λ r. ⌜ outcomeOfVerdict (r .answer) ≡ onAnswer done (beginOutcome group n (now (word .entry))) ⌝ }
+    ensures walk { λ r. ⌜ r .walk ≡ orElse itself noWalk (beginOutcome group n (now (word .entry))) ⌝ }
+{
+    match inner::word_call_checked(group, n, word) {
+        Verdict::Refused(why) => Begun {
+            answer: Verdict::Refused(why),
+            walk: steps::no_walk(),
+        },
+        Verdict::Accepted => Begun {
+            answer: Verdict::Accepted,
+            walk: steps::walk_from(group, word),
+        },
+    }
+}
+
+impl Walk {
+    // The entry of this index, and the walk after it. After the last entry it answers finished and changes nothing.
+    pub fn next(self) -> Stepped
+        ensures answer { λ r. ⌜ outcomeOfStep (r .answer) ≡ nextOutcome self ⌝ }
+        ensures word { λ r. ⌜ r .word ≡ orElse (entryWord self) noWord (nextOutcome self) ⌝ }
+        ensures walk { λ r. ⌜ r .walk ≡ orElse (afterEntry self) self (nextOutcome self) ⌝ }
+    {
+        match steps::walk_checked(self) {
+            Verdict::Refused(why) => Stepped {
+                answer: Step::Refused(why),
+                word: [0u8; WORD_BYTES],
+                walk: self,
+            },
+            Verdict::Accepted => steps::step_of(self),
+        }
+    }
+}
