@@ -7,5 +7,6 @@ pub mod Faults
 pub mod Placed
 pub mod Reading
 pub mod Rows
+pub mod Axes
 pub mod Holding
 pub mod Groups
