@@ -36,7 +36,7 @@ pub product-parts : (k : ℕ) (xs : List ℕ) → product xs ≡ product (take k
 unfolding product
 product-parts zero xs = sym (one-mul (product xs))
 product-parts (suc k) [] = refl
-product-parts (suc k) (x ∷ xs) = rw (mul-assoc) (ap (λ (p : ℕ). x * p) (product-parts k xs))
+product-parts (suc k) (x ∷ xs) = rw mul-assoc (ap (λ (p : ℕ). x * p) (product-parts k xs))
 
 -- sides none of which is 0
 module _ (sides : List ℕ) (some : 0 < product sides) where
@@ -63,6 +63,18 @@ module _ (sides : List ℕ) (some : 0 < product sides) where
           le-mul-of-pos-right (getD sides g 0) (first-positive g),
           mul-comm (getD sides g 0) (product (take g sides)),
         )
+
+three : (a b c : ℕ) → product (a ∷ b ∷ c ∷ []) ≡ a * b * c
+unfolding product
+three a b c = ap (λ (k : ℕ). a * (b * k)) (mul-one c) ∙ sym (mul-assoc a b c)
+
+-- the first of three sides: where the product of all is not 0, theirs is neither 0 nor larger
+pub sides-within :
+    (a b c k : ℕ) → 0 < a * b * c → (0 < product (take k (a ∷ b ∷ c ∷ []))) × (product (take k (a ∷ b ∷ c ∷ [])) ≤ a * b * c)
+sides-within a b c k some =
+    let sides = a ∷ b ∷ c ∷ [] in
+    let all : 0 < product sides = omega (arith, three a b c) in
+    (first-positive sides all k, omega (arith, first-small sides all k, three a b c))
 
 -- ---- one axis more
 

@@ -9,7 +9,7 @@ use mathlib.Core.Logic.{_⊎_, inl, inr}
 use mathlib.Core.List.{List, [], _∷_, map}
 use native.Mathlib.Omega.{arith}
 use lib.Dec.{ltb}
-use lib.ListN.{length, getD, take, length-map}
+use lib.ListN.{length, getD, take, drop, length-map, length-take}
 use lib.Seq.{length-take-le}
 use borrow.Author.Tests.{ltb-true, ltb-false, le-ltb, eq-eqb, not-false}
 use Rattle.pauli_word.specs.Limits.{maxSites}
@@ -31,10 +31,12 @@ use Rattle.elements.proofs.Tables.{generators-of}
 use Rattle.group.specs.declared.Group.{Group}
 use Rattle.group.specs.Value.{groupOf, tryFromOutcome, Fit, GivenBy, generatorsOf, isGroup, AcceptedGroup, GivenAs}
 use Rattle.group.specs.Calls.{latticeOutcome, axesOutcome}
-use Rattle.group.proofs.Making.{same-group, tablesOf, group-tables}
+use Rattle.group.proofs.Lattices.{same-group}
+use Rattle.group.proofs.Making.{tablesOf, group-tables}
 use Rattle.action.specs.Lattice.{shifts}
 use Rattle.action.specs.Arithmetic.{product}
-use Rattle.action.proofs.Theorems.{shifts-valid, shifts-order, shifts-length}
+use Rattle.action.proofs.Lattice.{shifts-valid, shifts-order, shifts-length}
+use Rattle.generators.proofs.Axes.{sides-within, product-parts}
 
 -- generators, taken apart and put together again
 
@@ -167,7 +169,9 @@ axes-generators a b c k g room made =
     let few : n ≤ maxSites = ltb-false maxSites n (verdict-fine (sidesLimit n) [] rest .0) in
     let positive : 0 < n = ltb-true 0 n (not-false (ltb 0 n) some) in
     let within = sides-within a b c k positive in
-    let whole : 1 * product sides * product (drop k (a ∷ b ∷ c ∷ [])) ≡ n = ?whole in
+    let whole : 1 * product sides * product (drop k (a ∷ b ∷ c ∷ [])) ≡ n =
+    unfold product in omega (arith, product-parts k (a ∷ b ∷ c ∷ []))
+    in
     generators-made n gs few (omega (arith, shifts-length n 1 sides, length-take k (a ∷ b ∷ c ∷ [])))
     (shifts-valid positive 1 sides (product (drop k (a ∷ b ∷ c ∷ []))) whole) (omega (arith, shifts-order n 1 sides, within .1))
     ∙ ap answer same

@@ -25,12 +25,9 @@ use Rattle.outcome.specs.declared.Refusal.the-variants as Refusal
 use Rattle.outcome.specs.declared.Verdict.the-variants as Verdict
 use Rattle.group.specs.declared.Made.{Made}
 use Rattle.group.specs.Value.{groupOf, noGroup, tryFromOutcome}
+use Rattle.group.proofs.Lattices.{same-group}
 
 -- ---- the value of generators
-
--- groups with the same parts are the same
-pub same-group : {g h : Group} → g .sites ≡ h .sites → g .generators ≡ h .generators → g .orders ≡ h .orders → g .targets ≡ h .targets → g ≡ h
-same-group n k o t i = record { sites = n i; generators = k i; orders = o i; targets = t i }
 
 declared-perms : (perms : List (List ℕ)) (orders : List ℕ) → length perms ≡ length orders → map (λ g. g .perm) (declared perms orders) ≡ perms
 unfolding declared

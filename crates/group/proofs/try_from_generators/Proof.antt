@@ -2,11 +2,10 @@
 use Prim.Native.Nat.{ℕ}
 use mathlib.Core.Path.{_≡_, sym, ap, _∙_}
 use mathlib.Core.Bool.{false}
-use mathlib.Core.List.{[], _∷_}
 use native.Mathlib.Omega.{arith}
 use lib.ListN.{length}
 use denote.Ref.{now}
-use Rattle.outcome.specs.Outcome.{refused}
+use Rattle.outcome.specs.Outcome.{refused, refusalOf, outcomeOfNumber}
 use Rattle.permutation.specs.Generators.{endsInside, permsOf}
 use Rattle.outcome.specs.declared.Refusal.the-variants as Refusal
 use Rattle.group.proofs.Making.{scan-inside, scan-whole, refused-made, many-sites, ends-early, many-generators, other-count}
@@ -21,7 +20,7 @@ counted :
     ((endsInside list ≡ false) × (c .before .count .given .0 .0 ≡ length (permsOf list)))
 counted c =
     scan-whole (now (c .before .before .before .before .before .before .before .args .list)) (c .before .count .given .0 .0)
-    (sym (c .before .before .before .count-generators .ensures) ∙ c .before .count .given .1)
+    (sym (c .before .before .before .count-generators .ensures) ∙ ap outcomeOfNumber (c .before .count .given .1))
 
 refused-requires : tie.Need-refused-requires
 refused-requires c κs = search needs
@@ -52,7 +51,8 @@ returns-2 c =
     let r = c .refused2 in
     refused-made (a .sites) (now (a .list)) (now (a .orders)) Refusal.ListEndsInside
     (ends-early (a .sites) (now (a .list)) (now (a .orders)) (c .before .before .before .before .if1 .left)
-    (scan-inside (now (a .list)) (sym (c .before .before .before .count-generators .ensures) ∙ c .before .enum-told .given .1)))
+    (scan-inside (now (a .list)) (c .before .enum-told .given .0 .0)
+    (sym (c .before .before .before .count-generators .ensures) ∙ ap outcomeOfNumber (c .before .enum-told .given .1))))
     (r .result) (r .ensures .0) (r .ensures .1)
 
 refused-requires-3 : tie.Need-refused-requires-3
@@ -83,7 +83,7 @@ returns-4 c =
     (other-count (a .sites) (now (a .list)) (now (a .orders)) (t .before .before .before .before .if1 .left) whole
     (omega (arith, count, c .before .before .if2 .left))
     (λ e. c .before .if3 .taken (count ∙ e))
-    ∙ ap (λ (j : ℕ). refused 4 (j ∷ length (now (a .orders)) ∷ [])) (sym count))
+    ∙ ap (λ (j : ℕ). refusalOf (Refusal.LengthMismatch j (length (now (a .orders))))) (sym count))
     (r .result) (r .ensures .0) (r .ensures .1)
 
 made-requires : tie.Need-made-requires

@@ -13,10 +13,12 @@ use Rattle.permutation.specs.Generators.{permsOf, permsCheck, groupChecks, rows
 use Rattle.generators.specs.Tables.{filled, placedAll}
 use Rattle.generators.proofs.Zeros.{blank, drop-blank}
 use Rattle.generators.proofs.Placed.{filled-length}
+use Rattle.generators.proofs.Reading.{passing-all}
 use Rattle.generators.proofs.Rows.{rows-permute}
 use Rattle.outcome.proofs.Outcomes.{answered-fine}
 use Rattle.group.specs.Value.{noGroup}
-use Rattle.group.proofs.Making.{same-group, tryChecks, refused-made, answered-made, perms-refused, group-decides, rows-filled, orders-filled}
+use Rattle.group.proofs.Lattices.{same-group}
+use Rattle.group.proofs.Making.{tryChecks, refused-made, answered-made, perms-refused, group-decides, rows-filled, orders-filled}
 use borrow.Author.Needs.{needs}
 use Rattle.group.proofs.make.made.Statement.{statement}
 use Rattle.group.proofs.make.made.Tie as tie
@@ -41,7 +43,9 @@ fine c =
 placed :
     (c : tie.After-enum-told)
     → c .before .before .before .fill-targets .last .1 .1 .0 ≡ placedAll (permsOf (now (c .before .before .before .before .before .before .before .args .list)))
-placed c = c .before .before .before .fill-targets .ensures .1 (ap outcomeOfVerdict (c .enum-told .given .1))
+placed c =
+    let a = c .before .before .before .before .before .before .before .args in
+    c .before .before .before .fill-targets .ensures .1 ∙ ap placedAll (passing-all (a .sites) 0 (permsOf (now (a .list))) (fine c))
 
 rows :
     (c : tie.After-enum-told)
