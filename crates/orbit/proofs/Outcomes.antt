@@ -1,29 +1,27 @@
 -- What the calls that fill a list come to for an accepted group and word, and a step for a walk that passes its checks.
 -- What carries it: the checks before a call's own are passed, so that its own decide.
 use Prim.Native.Nat.{ℕ, _*_, _≤_, _<_}
-use mathlib.Core.Path.{_≡_, refl, ap, _∙_}
-use mathlib.Core.Bool.{Bool, true, false, cond}
-use mathlib.Core.List.{List, [], _∷_, _++_, append-nil}
-use native.Mathlib.Omega.{arith}
-use lib.Dec.{ltb, eqb}
-use lib.ListN.{length, drop, drop-of-length-le}
-use borrow.Author.Tests.{leb-true, lt-ltb, le-ltb, eq-eqb, ne-eqb}
-use Rattle.pauli_word.specs.Limits.{maxSites, wordLength}
+use mathlib.Core.Path.{_≡_, ap, _∙_}
+use mathlib.Core.Bool.{Bool, cond}
+use mathlib.Core.List.{List, [], _∷_}
+use borrow.Author.Tests.{lt-ltb, le-ltb, eq-eqb, ne-eqb}
+use Rattle.pauli_word.specs.Limits.{wordLength}
 use Rattle.outcome.specs.declared.Refusal.the-variants as Refusal
 use Rattle.outcome.specs.Outcome.{answer, refusalOf, verdict}
-use Rattle.pauli_word.specs.Bytes.{AcceptedWord}
-use Rattle.pauli_word.specs.Calls.{siteCount}
-use Rattle.outcome.proofs.Outcomes.{call-answers}
-use Rattle.action.specs.Index.{orderOf, digits, inverse}
+use Rattle.pauli_word.specs.Bytes.{AcceptedWord, lettersIn}
+use Rattle.outcome.proofs.Outcomes.{call-answers, verdict-append}
+use Rattle.action.specs.Index.{orderOf, digits}
 use Rattle.action.specs.Orbit.{orbitList, least, indexBack}
 use Rattle.group.specs.declared.Group.{Group}
-use Rattle.group.specs.declared.Walk.{Walk}
+use Rattle.orbit.specs.declared.Walk.{Walk}
 use Rattle.group.specs.Value.{generatorsOf, AcceptedGroup}
-use Rattle.group.specs.Calls.{counterOutcome, invertOutcome, withShiftOutcome, orbitListOutcome, notAWalk, entry, finished, entryOf, nextOutcome}
+use Rattle.orbit.specs.Calls.{withShiftOutcome, orbitListOutcome, entry, finished, entryOf, nextOutcome, walkChecks, wordCallChecks}
+use Rattle.orbit.proofs.WordCalls.{word-call-passes}
+use Rattle.group.specs.Calls.{listLength}
 
 module _ (g : Group) (ok : AcceptedGroup g) (bytes : List ℕ) (word : AcceptedWord (g .sites) bytes) (k : ℕ) where
   passes : verdict (wordCallChecks g (g .sites) bytes) ≡ answer tt
-  passes = accepted-passes g ok bytes word
+  passes = word-call-passes g ok bytes word
 
   pub shift-length : (k ≡ g .generators → ⊥) → withShiftOutcome g (g .sites) bytes k ≡ refusalOf Refusal.ListLength
   unfolding withShiftOutcome

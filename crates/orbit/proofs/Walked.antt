@@ -8,13 +8,12 @@ use native.Mathlib.Numerals.{add-one}
 use native.Mathlib.Decide.{decLt}
 use native.Mathlib.Omega.{arith}
 use lib.ListN.{length}
-use borrow.Author.Tests.{leb-true, le-leb, le-ltb}
+use borrow.Author.Tests.{le-leb, le-ltb}
 use Rattle.pauli_word.specs.Limits.{maxSites, planeLength, wordLength}
 use Rattle.outcome.specs.Outcome.{Outcome, answer, verdict, orElse}
 use Rattle.pauli_word.specs.Word.{Word}
-use Rattle.pauli_word.specs.Bytes.{Bytes, AcceptedWord}
-use Rattle.pauli_word.specs.Calls.{siteCount}
-use Rattle.outcome.proofs.Outcomes.{call-answers}
+use Rattle.pauli_word.specs.Bytes.{Bytes, AcceptedWord, lettersIn, bytesOf}
+use Rattle.outcome.proofs.Outcomes.{call-answers, unless-answer}
 use Rattle.pauli_word.proofs.Words.{map-append, decode-length, encode-decode, encoded-accepted, encoded-decode}
 use Rattle.action.specs.Lists.{from, below}
 use Rattle.action.specs.Index.{orderOf, inverse}
@@ -22,35 +21,19 @@ use Rattle.action.specs.Orbit.{reach}
 use Rattle.action.proofs.Reach.{reach-length, reach-of-inverse}
 use Rattle.elements.specs.Tables.{Tables}
 use Rattle.elements.proofs.Orbits.{entries, entries-next, walk-start, walk-accepted, walk-next}
 use Rattle.group.specs.declared.Group.{Group}
-use Rattle.group.specs.declared.Walk.{Walk}
+use Rattle.orbit.specs.declared.Walk.{Walk}
 use Rattle.group.specs.Value.{generatorsOf, AcceptedGroup}
-use Rattle.group.specs.Calls.{wordCallChecks, isWalk, notAWalk, beginOutcome, Entry, entry, finished, entryWord, afterEntry, nextOutcome}
-use Rattle.group.proofs.Accepted.{accepted-tables, walk-word, walk-index}
-use Rattle.group.proofs.Outcomes.{next-entry, next-finished}
-use Rattle.group.proofs.Given.{Long, unless-answer, word-passes, held-valid}
-
--- the walk after a step: a call that is refused leaves it as it is
-abbrev pub stepOn : Walk → Walk
-stepOn v = orElse (afterEntry v) v (nextOutcome v)
-
--- the walk after k steps
-unfoldable pub walked : ℕ → Walk → Walk
-walked zero v = v
-walked (suc k) v = stepOn (walked k v)
-
--- the word that an entry gives; the end gives none
-abbrev pub wordGiven : Walk → Entry → List (List ℕ)
-wordGiven v (entry i) = entryWord v (entry i) ∷ []
-wordGiven v finished = []
-
--- the words that k steps give
-unfoldable pub wordsGiven : ℕ → Walk → List (List ℕ)
-wordsGiven zero v = []
-wordsGiven (suc k) v = wordsGiven k v ++ orElse (wordGiven (walked k v)) [] (nextOutcome (walked k v))
+use Rattle.orbit.specs.Calls.{wordCallChecks, isWalk, beginOutcome, Entry, entry, finished, afterEntry, nextOutcome, walkChecks}
+use Rattle.orbit.proofs.Walking.{walk-word, walk-index}
+use Rattle.group.proofs.Accepted.{accepted-tables}
+use Rattle.orbit.proofs.Outcomes.{next-entry, next-finished}
+use Rattle.group.proofs.Given.{held-valid}
+use Rattle.orbit.proofs.WordCalls.{word-call-passes}
+use Rattle.orbit.specs.Walked.{walked, wordsGiven, wordGiven, stepOn}
 
 -- a walk passes the checks of a step
-checks-passed : (v : Walk) → v .group .sites ≤ maxSites → isWalk v ≡ true → verdict (siteCount (v .group .sites) ∷ notAWalk v ∷ []) ≡ answer tt
+checks-passed : (v : Walk) → v .group .sites ≤ maxSites → isWalk v ≡ true → verdict (walkChecks v) ≡ answer tt
 checks-passed v few e = simp (le-ltb maxSites (v .group .sites) few, e)
 
 -- ---- the walk at the word that index i reaches from w
@@ -58,9 +41,9 @@ checks-passed v few e = simp (le-ltb maxSites (v .group .sites) few, e)
 abbrev pub walkAt : Group → Word → ℕ → Walk
 walkAt g w i = record { group = g; word = bytesOf (reach (generatorsOf g) i w); index = i }
 
-module _ (g : Group) (ok : AcceptedGroup g) (long : Long g) (w : Word) (size : length w ≡ g .sites) where
+module _ (g : Group) (ok : AcceptedGroup g) (w : Word) (size : length w ≡ g .sites) where
   tables : Tables (g .generators) (g .sites) (g .targets) (g .orders)
-  tables = accepted-tables g ok (long .targets) (long .orders)
+  tables = accepted-tables g ok
 
   module _ (i : ℕ) where
     here : AcceptedWord (g .sites) (bytesOf (reach (generatorsOf g) i w))
@@ -71,8 +54,8 @@ module _ (g : Group) (ok : AcceptedGroup g) (long : Long g) (w : Word) (size : l
     unfolding isWalk
     at-walk h = simp (ok .isOne, here .xClear, here .zClear, le-leb i (orderOf (generatorsOf g)) h)
 
-    passes : i ≤ orderOf (generatorsOf g) → verdict (siteCount (g .sites) ∷ notAWalk (walkAt g w i) ∷ []) ≡ answer tt
-    passes h = checks-passed (walkAt g w i) (leb-true (g .sites) maxSites (ok .few)) (at-walk h)
+    passes : i ≤ orderOf (generatorsOf g) → verdict (walkChecks (walkAt g w i)) ≡ answer tt
+    passes h = checks-passed (walkAt g w i) (ok .few) (at-walk h)
 
     pub at-entry : i < orderOf (generatorsOf g) → nextOutcome (walkAt g w i) ≡ answer (entry i)
     at-entry h = next-entry (walkAt g w i) (passes (omega arith)) h
@@ -146,7 +129,7 @@ module _ (g : Group) (ok : AcceptedGroup g) (long : Long g) (w : Word) (size : l
 
 -- ---- a walk begun with an accepted group and word
 
-module _ (g : Group) (ok : AcceptedGroup g) (long : Long g) (bytes : List ℕ) (word : AcceptedWord (g .sites) bytes)
+module _ (g : Group) (ok : AcceptedGroup g) (bytes : List ℕ) (word : AcceptedWord (g .sites) bytes)
     (start : Walk) (begun : beginOutcome g (g .sites) bytes ≡ answer start) where
   pub starts : start ≡ walkAt g (lettersIn (g .sites) bytes) 0
   unfolding beginOutcome
@@ -156,7 +139,7 @@ module _ (g : Group) (ok : AcceptedGroup g) (long : Long g) (bytes : List ℕ) (
       ∙ (λ j. record { group = g; word = first j; index = 0 })
 
   pub steps-at : (i : ℕ) → walked i start ≡ walkAt g (lettersIn (g .sites) bytes) (min i (orderOf (generatorsOf g)))
-  steps-at i = ap (walked i) starts ∙ walked-at g ok long (lettersIn (g .sites) bytes) (decode-length word) i
+  steps-at i = ap (walked i) starts ∙ walked-at g ok (lettersIn (g .sites) bytes) (decode-length word) i
 
   pub steps-before : (i : ℕ) → i ≤ orderOf (generatorsOf g) → walked i start ≡ walkAt g (lettersIn (g .sites) bytes) i
   steps-before i h = steps-at i ∙ ap (walkAt g (lettersIn (g .sites) bytes)) (omega arith)
@@ -173,10 +156,10 @@ beginningOf v =
 abbrev pub begunAs : Walk → Walk
 begunAs v = record { group = v .group; word = bytesOf (beginningOf v); index = 0 }
 
-module _ (v : Walk) (one : isWalk v ≡ true) (ok : AcceptedGroup (v .group)) (long : Long (v .group)) (size : length (v .word) ≡ wordLength)
+module _ (v : Walk) (one : isWalk v ≡ true) (ok : AcceptedGroup (v .group)) (size : length (v .word) ≡ wordLength)
     (small : Bytes (v .word)) where
   few : v .group .sites ≤ maxSites
-  few = leb-true (v .group .sites) maxSites (ok .few)
+  few = ok .few
 
   now : AcceptedWord (v .group .sites) (v .word)
   now = walk-word v (checks-passed v few one) size small
@@ -193,18 +176,18 @@ module _ (v : Walk) (one : isWalk v ≡ true) (ok : AcceptedGroup (v .group)) (l
   unfolding beginOutcome
   beginning-begun =
       call-answers (wordCallChecks (v .group) (v .group .sites) (bytesOf (beginningOf v))) (answer (begunAs v))
-      (word-passes (v .group) ok (bytesOf (beginningOf v)) beginning-accepted)
+      (word-call-passes (v .group) ok (bytesOf (beginningOf v)) beginning-accepted)
 
   -- its own index leads from there to its word
   back : bytesOf (reach (generatorsOf (v .group)) (v .index) (lettersIn (v .group .sites) (bytesOf (beginningOf v)))) ≡ v .word
   back =
       ap bytesOf
       (ap (reach (generatorsOf (v .group)) (v .index)) (encoded-decode planeLength (beginningOf v) beginning-long few refl)
-      ∙ reach-of-inverse (held-valid (v .group) ok long) (v .index) (lettersIn (v .group .sites) (v .word)) (decode-length now))
+      ∙ reach-of-inverse (held-valid (v .group) ok) (v .index) (lettersIn (v .group .sites) (v .word)) (decode-length now))
       ∙ encode-decode now
 
   pub beginning-reaches : walked (v .index) (begunAs v) ≡ v
   beginning-reaches =
-      steps-before (v .group) ok long (bytesOf (beginningOf v)) beginning-accepted (begunAs v) beginning-begun (v .index)
+      steps-before (v .group) ok (bytesOf (beginningOf v)) beginning-accepted (begunAs v) beginning-begun (v .index)
       (walk-index v (checks-passed v few one))
       ∙ (λ i. record { group = v .group; word = back i; index = v .index })

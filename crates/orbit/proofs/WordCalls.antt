@@ -115,9 +115,9 @@ module _ (g : Group) (n : ℕ) (bytes : List ℕ) (pass : verdict (wordCallCheck
 
 -- ---- an accepted group and an accepted word of its sites pass
 
-pub accepted-passes :
+pub word-call-passes :
     (g : Group) → AcceptedGroup g → (bytes : List ℕ) → AcceptedWord (g .sites) bytes → verdict (wordCallChecks g (g .sites) bytes) ≡ answer tt
-accepted-passes g ok bytes word =
+word-call-passes g ok bytes word =
     simp (
       le-ltb maxSites (g .sites) (ok .few),
       ok .isOne,

@@ -1,2 +1,3 @@
--- What the contracts of this crate say.
+-- What the contracts of this crate say, and what its promises are stated by.
 pub mod Calls
+pub mod Walked

@@ -3,19 +3,19 @@ use Prim.Native.Nat.{ℕ}
 use mathlib.Core.Path.{_≡_, sym, ap, _∙_}
 use mathlib.Core.List.{List}
 use denote.Ref.{now}
-use Rattle.outcome.specs.Outcome.{answer, verdict, onAnswer, orElse}
+use Rattle.outcome.specs.Outcome.{answer, verdict, onAnswer, orElse, done, refusalOf, outcomeOfVerdict}
 use Rattle.pauli_word.proofs.Planes.{bytes-of}
-use Rattle.outcome.proofs.Outcomes.{call-answers}
+use Rattle.outcome.proofs.Outcomes.{call-answers, call-refused}
 use Rattle.action.specs.Orbit.{least}
 use Rattle.group.specs.declared.Group.{Group}
 use Rattle.outcome.specs.declared.Refusal.{Refusal}
 use Rattle.group.specs.Value.{generatorsOf}
-use Rattle.group.specs.Calls.{done, refusalOf, wordCallChecks, canonicalizeOutcome, noWord}
-use Rattle.group.specs.Parts.{outcomeOfVerdict}
-use Rattle.group.proofs.CallLaws.{call-refused, refusal-stays, refusal-else, call-group, call-sites, call-word}
+use Rattle.orbit.specs.Calls.{wordCallChecks, canonicalizeOutcome, noWord}
+use Rattle.orbit.proofs.WordCalls.{call-group, call-sites, call-word}
 use borrow.Author.Needs.{needs}
 use Rattle.orbit.proofs.canonicalize.Statement.{statement}
 use Rattle.orbit.proofs.canonicalize.Tie as tie
+use Rattle.pauli_word.specs.Bytes.{lettersIn, bytesOf}
 
 module _ (g : Group) (n : ℕ) (bytes : List ℕ) where
   refused-word : (why : Refusal) → verdict (wordCallChecks g n bytes) ≡ refusalOf why → canonicalizeOutcome g n bytes ≡ refusalOf why
@@ -40,7 +40,7 @@ least-of-requires c κs =
     let a = c .before .before .before .before .args in
     let bytes = now (a .word) in
     let pass = sym (c .before .before .word-call-checked .ensures) ∙ ap outcomeOfVerdict (c .enum-told .given .1) in (
-      call-group (a .group) (a .n) bytes pass,
+      call-group (a .group) (a .n) bytes pass (search needs) (search needs),
       call-word (a .group) (a .n) bytes pass (bytes-of bytes (λ i. c .before .before .before .shared-slice-known .given i .fits)),
     )
 

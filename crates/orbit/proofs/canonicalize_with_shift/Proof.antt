@@ -1,22 +1,24 @@
--- `canonicalize_with_shift` meets its contract: the checks pass or refuse, and a word that passes has the group's sites, as `inner::shift_of` asks.
+-- `canonicalize_with_shift` meets its contract: the checks pass or refuse, and a word that passes has the group's sites, as `calls::shift_of` asks.
 use Prim.Native.Nat.{ℕ}
 use mathlib.Core.Path.{_≡_, sym, ap, _∙_}
 use mathlib.Core.List.{List, [], _∷_, _++_}
 use lib.ListN.{length}
 use denote.Ref.{now}
-use Rattle.outcome.specs.Outcome.{answer, verdict, onAnswer, orElse}
+use Rattle.outcome.specs.Outcome.{answer, verdict, onAnswer, orElse, done, refusalOf, outcomeOfVerdict}
 use Rattle.pauli_word.proofs.Planes.{bytes-of}
 use Rattle.action.specs.Index.{digits}
 use Rattle.action.specs.Orbit.{least, indexBack}
 use Rattle.group.specs.declared.Group.{Group}
 use Rattle.outcome.specs.declared.Refusal.{Refusal}
 use Rattle.group.specs.Value.{generatorsOf}
-use Rattle.group.specs.Calls.{done, refusalOf, listLength, wordCallChecks, withShiftOutcome, wordOf, shiftOf, noWord}
-use Rattle.group.specs.Parts.{outcomeOfVerdict}
-use Rattle.group.proofs.CallLaws.{call-refused, front-refused, refusal-stays, refusal-else, call-group, call-sites, call-word}
+use Rattle.orbit.specs.Calls.{wordCallChecks, withShiftOutcome, wordOf, shiftOf, noWord}
+use Rattle.group.specs.Calls.{listLength}
+use Rattle.outcome.proofs.Outcomes.{call-refused, front-refused}
+use Rattle.orbit.proofs.WordCalls.{call-group, call-sites, call-word}
 use borrow.Author.Needs.{needs}
 use Rattle.orbit.proofs.canonicalize_with_shift.Statement.{statement}
 use Rattle.orbit.proofs.canonicalize_with_shift.Tie as tie
+use Rattle.pauli_word.specs.Bytes.{lettersIn}
 
 refused-word :
     (g : Group) (n : ℕ) (bytes : List ℕ) (k : ℕ) (why : Refusal) → verdict (wordCallChecks g n bytes) ≡ refusalOf why
@@ -42,7 +44,7 @@ shift-of-requires c κs =
     let a = c .before .before .before .before .before .before .args in
     let bytes = now (a .word) in
     let pass = sym (c .before .before .before .word-call-checked .ensures) ∙ ap outcomeOfVerdict (c .before .enum-told .given .1) in (
-      call-group (a .group) (a .n) bytes pass,
+      call-group (a .group) (a .n) bytes pass (search needs) (search needs),
       call-word (a .group) (a .n) bytes pass (bytes-of bytes (λ i. c .before .before .before .before .before .shared-slice-known .given i .fits)),
     )
 

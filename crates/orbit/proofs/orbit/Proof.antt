@@ -3,14 +3,13 @@ use Prim.Native.Nat.{ℕ}
 use mathlib.Core.Path.{_≡_, sym, ap, _∙_}
 use mathlib.Core.List.{List}
 use denote.Ref.{now}
-use Rattle.outcome.specs.Outcome.{answer, verdict, onAnswer, orElse}
-use Rattle.outcome.proofs.Outcomes.{call-answers}
+use Rattle.outcome.specs.Outcome.{answer, verdict, onAnswer, orElse, done, itself, refusalOf, outcomeOfVerdict}
+use Rattle.outcome.proofs.Outcomes.{call-answers, call-refused}
 use Rattle.group.specs.declared.Group.{Group}
-use Rattle.group.specs.declared.Walk.{Walk}
+use Rattle.orbit.specs.declared.Walk.{Walk}
 use Rattle.outcome.specs.declared.Refusal.{Refusal}
-use Rattle.group.specs.Calls.{done, itself, refusalOf, wordCallChecks, beginOutcome, noWalk}
-use Rattle.group.specs.Parts.{outcomeOfVerdict}
-use Rattle.group.proofs.CallLaws.{call-refused, refusal-stays, refusal-else, call-long}
+use Rattle.orbit.specs.Calls.{wordCallChecks, beginOutcome, noWalk}
+use Rattle.orbit.proofs.WordCalls.{call-long}
 use borrow.Author.Needs.{needs}
 use Rattle.orbit.proofs.orbit.Statement.{statement}
 use Rattle.orbit.proofs.orbit.Tie as tie

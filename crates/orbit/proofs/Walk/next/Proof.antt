@@ -1,10 +1,8 @@
--- `Walk::next` meets its contract: the checks pass or refuse, and a walk that passes takes the step of `inner::step_of`.
+-- `Walk::next` meets its contract: the checks pass or refuse, and a walk that passes takes the step of `steps::step_of`.
 use mathlib.Core.Path.{sym, ap, _∙_}
-use Rattle.outcome.specs.Outcome.{answer, orElse}
-use Rattle.group.specs.Calls.{entryOf, nextOutcome, entryWord, afterEntry, noWord}
-use Rattle.group.specs.Parts.{outcomeOfVerdict}
-use Rattle.group.proofs.CallLaws.{call-refused, refusal-else}
-use Rattle.group.proofs.Walking.{walkChecks}
+use Rattle.outcome.specs.Outcome.{answer, orElse, outcomeOfVerdict}
+use Rattle.orbit.specs.Calls.{entryOf, nextOutcome, entryWord, afterEntry, noWord, walkChecks}
+use Rattle.outcome.proofs.Outcomes.{call-refused}
 use borrow.Author.Needs.{needs}
 use Rattle.orbit.proofs.Walk.next.Statement.{statement}
 use Rattle.orbit.proofs.Walk.next.Tie as tie

@@ -1,22 +1,22 @@
--- `inner::orbit_of` meets its contract: of an accepted group and word, the list's length decides (`orbit-length`, `orbit-answer`).
+-- `calls::orbit_of` meets its contract: of an accepted group and word, the list's length decides (`orbit-length`, `orbit-answer`).
 use Prim.Native.Nat.{ℕ, _*_}
 use mathlib.Core.Path.{sym, ap, _∙_}
 use native.Mathlib.Omega.{arith}
 use lib.ListN.{length}
 use denote.Ref.{now}
-use Rattle.outcome.specs.Outcome.{onAnswer, orElse}
+use Rattle.outcome.specs.Outcome.{onAnswer, orElse, done}
 use Rattle.group.specs.Value.{generatorsOf}
-use Rattle.group.specs.Calls.{done}
 use Rattle.elements.specs.Tables.{Tables, encodeAll}
 use Rattle.group.proofs.Accepted.{accepted-tables}
-use Rattle.group.proofs.Outcomes.{orbit-length, orbit-answer}
+use Rattle.orbit.proofs.Outcomes.{orbit-length, orbit-answer}
 use borrow.Author.Needs.{needs}
 use Rattle.orbit.proofs.calls.orbit_of.Statement.{statement}
 use Rattle.orbit.proofs.calls.orbit_of.Tie as tie
+use Rattle.pauli_word.specs.Limits.{wordLength}
 
 -- the tables of an accepted group
 tables : (c : tie.Start) → let g = c .args .group in Tables (g .generators) (g .sites) (g .targets) (g .orders)
-tables c = accepted-tables (c .args .group) (c .pre .0) (search needs) (search needs)
+tables c = accepted-tables (c .args .group) (c .pre .0)
 
 order-of-requires : tie.Need-order-of-requires
 order-of-requires c κs = search needs
@@ -31,7 +31,7 @@ returns c =
     let list = now (s .args .list) in
     let e =
     orbit-length (s .args .group) (s .pre .0) (now (s .args .word)) (s .pre .1) (length list)
-    (λ k. c .if1 .taken (k ∙ ap (λ (n : ℕ). 64 * n) (sym (c .before .order-of .ensures))))
+    (λ k. c .if1 .taken (k ∙ ap (λ (n : ℕ). wordLength * n) (sym (c .before .order-of .ensures))))
     in
     (sym (ap (onAnswer done) e), sym (ap (orElse encodeAll list) e))
 
@@ -55,7 +55,7 @@ returns-2 c =
     let list = now (s .args .list) in
     let e =
     orbit-answer (s .args .group) (s .pre .0) (now (s .args .word)) (s .pre .1) (length list)
-    (c .before .before .before .before .before .before .before .before .if1 .left ∙ ap (λ (n : ℕ). 64 * n) (c .before .before .before .before .before .before .before .before .before .order-of .ensures))
+    (c .before .before .before .before .before .before .before .before .if1 .left ∙ ap (λ (n : ℕ). wordLength * n) (c .before .before .before .before .before .before .before .before .before .order-of .ensures))
     in
     (sym (ap (onAnswer done) e), c .before .before .fill-orbit .ensures ∙ sym (ap (orElse encodeAll list) e))
 

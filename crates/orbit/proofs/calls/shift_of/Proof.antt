@@ -1,23 +1,24 @@
--- `inner::shift_of` meets its contract: of an accepted group and word, the counter's length decides (`shift-length`, `shift-answer`), and the digits
+-- `calls::shift_of` meets its contract: of an accepted group and word, the counter's length decides (`shift-length`, `shift-answer`), and the digits
 -- fill the whole counter (`overwritten`).
 use mathlib.Core.Path.{sym, ap, _∙_}
 use native.Mathlib.Omega.{arith}
 use lib.ListN.{length}
 use denote.Ref.{now}
-use Rattle.outcome.specs.Outcome.{onAnswer, orElse}
+use Rattle.outcome.specs.Outcome.{onAnswer, orElse, done}
 use Rattle.action.specs.Index.{digits}
 use Rattle.group.specs.Value.{generatorsOf}
-use Rattle.group.specs.Calls.{done, wordOf, shiftOf, noWord}
+use Rattle.orbit.specs.Calls.{wordOf, shiftOf, noWord}
 use Rattle.elements.specs.Tables.{Tables}
 use Rattle.group.proofs.Accepted.{accepted-tables}
-use Rattle.group.proofs.Outcomes.{overwritten, shift-length, shift-answer}
+use Rattle.orbit.proofs.Outcomes.{shift-length, shift-answer}
+use Rattle.group.proofs.Outcomes.{overwritten}
 use borrow.Author.Needs.{needs}
 use Rattle.orbit.proofs.calls.shift_of.Statement.{statement}
 use Rattle.orbit.proofs.calls.shift_of.Tie as tie
 
 -- the tables of an accepted group
 tables : (c : tie.Start) → let g = c .args .group in Tables (g .generators) (g .sites) (g .targets) (g .orders)
-tables c = accepted-tables (c .args .group) (c .pre .0) (search needs) (search needs)
+tables c = accepted-tables (c .args .group) (c .pre .0)
 
 returns : tie.Need-returns
 returns c =

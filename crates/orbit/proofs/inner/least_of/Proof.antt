@@ -3,16 +3,16 @@
 use mathlib.Core.Path.{ap, _∙_}
 use Rattle.action.specs.Index.{inverse}
 use Rattle.action.specs.Orbit.{indexBack}
 use Rattle.group.specs.Value.{generatorsOf}
 use Rattle.elements.specs.Tables.{Tables}
 use Rattle.group.proofs.Accepted.{accepted-tables}
 use borrow.Author.Needs.{needs}
 use Rattle.orbit.proofs.inner.least_of.Statement.{statement}
 use Rattle.orbit.proofs.inner.least_of.Tie as tie
 
 -- the tables of an accepted group
 tables : (c : tie.Start) → let g = c .args .group in Tables (g .generators) (g .sites) (g .targets) (g .orders)
-tables c = accepted-tables (c .args .group) (c .pre .0) (search needs) (search needs)
+tables c = accepted-tables (c .args .group) (c .pre .0)
 
 order-of-requires : tie.Need-order-of-requires
 order-of-requires c κs = search needs

@@ -1,11 +1,11 @@
--- `value::word_call_checked` meets its contract: each return is reached by the tests that decide it.
+-- `inner::word_call_checked` meets its contract: each return is reached by the tests that decide it.
 use mathlib.Core.Path.{_≡_, sym, ap, _∙_}
 use mathlib.Core.Bool.{true}
 use denote.Ref.{now}
 use borrow.Author.Tests.{not-true, not-false}
 use Rattle.outcome.specs.Outcome.{outcomeOfVerdict}
 use Rattle.group.specs.Value.{isGroup}
-use Rattle.group.proofs.Values.{word-clear, word-above, group-many, word-many, group-other, other-length, other-sites, bit-above, word-passes}
+use Rattle.orbit.proofs.WordCalls.{other-length, word-clear, word-above, group-many, word-many, group-other, other-sites, bit-above, word-passes}
 use borrow.Author.Needs.{needs}
 use Rattle.orbit.proofs.inner.word_call_checked.Statement.{statement}
 use Rattle.orbit.proofs.inner.word_call_checked.Tie as tie

@@ -1,7 +1,7 @@
--- `inner::no_walk` meets its contract: its group is the one beside a refusal, and its word is zeros.
+-- `steps::no_walk` meets its contract: its group is the one beside a refusal, and its word is zeros.
 use mathlib.Core.Path.{ap}
 use Rattle.group.specs.declared.Group.{Group}
-use Rattle.group.specs.Calls.{noWord, noWalk}
+use Rattle.orbit.specs.Calls.{noWord, noWalk}
 use borrow.Author.Needs.{needs}
 use Rattle.orbit.proofs.steps.no_walk.Statement.{statement}
 use Rattle.orbit.proofs.steps.no_walk.Tie as tie

@@ -1,4 +1,4 @@
--- `inner::step_of` meets its contract: a walk that passes its checks has an accepted group and word (`walk-group`, `walk-word`), and its index decides
+-- `steps::step_of` meets its contract: a walk that passes its checks has an accepted group and word (`walk-group`, `walk-word`), and its index decides
 -- (`next-entry`, `next-finished`).
 use Prim.Native.Nat.{ℕ}
 use mathlib.Core.Path.{sym, ap, ap₂, _∙_}
@@ -12,17 +12,18 @@ use Rattle.outcome.specs.Outcome.{orElse}
 use Rattle.pauli_word.specs.Bytes.{AcceptedWord}
 use Rattle.pauli_word.proofs.Planes.{bytes-of}
 use Rattle.elements.specs.Tables.{Tables}
 use Rattle.group.specs.Value.{generatorsOf}
-use Rattle.group.specs.Calls.{noWord, entryWord, afterEntry}
-use Rattle.group.proofs.Accepted.{accepted-tables, walk-group, walk-word}
-use Rattle.group.proofs.Outcomes.{next-entry, next-finished}
+use Rattle.orbit.specs.Calls.{noWord, entryWord, afterEntry}
+use Rattle.orbit.proofs.Walking.{walk-group, walk-word}
+use Rattle.group.proofs.Accepted.{accepted-tables}
+use Rattle.orbit.proofs.Outcomes.{next-entry, next-finished}
 use borrow.Author.Needs.{needs}
 use Rattle.orbit.proofs.steps.step_of.Statement.{statement}
 use Rattle.orbit.proofs.steps.step_of.Tie as tie
 
 -- the tables of the walk's group
 tables : (c : tie.Start) → let g = c .args .walk .group in Tables (g .generators) (g .sites) (g .targets) (g .orders)
-tables c = accepted-tables (c .args .walk .group) (walk-group (c .args .walk) (c .pre)) (search needs) (search needs)
+tables c = accepted-tables (c .args .walk .group) (walk-group (c .args .walk) (c .pre) (search needs) (search needs))
 
 -- its word: 64 bytes
 byte : (c : tie.Start) (i : ℕ) → Fits w8 (getD (c .args .walk .word) i 0)
@@ -32,7 +33,7 @@ word : (c : tie.Start) → AcceptedWord (c .args .walk .group .sites) (c .args .
 word c = walk-word (c .args .walk) (c .pre) (search needs) (bytes-of (c .args .walk .word) (λ i. byte c i .fits))
 
 order-of-requires : tie.Need-order-of-requires
-order-of-requires c κs = walk-group (c .before .args .walk) (c .before .pre)
+order-of-requires c κs = walk-group (c .before .args .walk) (c .before .pre) (search needs) (search needs)
 
 returns : tie.Need-returns
 returns c =

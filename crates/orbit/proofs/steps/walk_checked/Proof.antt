@@ -1,17 +1,15 @@
--- `inner::walk_checked` meets its contract: each return is reached by the tests that decide it.
+-- `steps::walk_checked` meets its contract: each return is reached by the tests that decide it.
 use Prim.Native.Nat.{_≤_}
 use mathlib.Core.Path.{_≡_, sym, ap, _∙_}
 use mathlib.Core.Bool.{true}
 use native.Mathlib.Omega.{arith}
-use borrow.Author.Tests.{leb-true}
 use Rattle.pauli_word.specs.Limits.{maxSites}
 use Rattle.outcome.specs.Outcome.{outcomeOfVerdict}
 use Rattle.pauli_word.specs.Calls.{clearAbove}
 use Rattle.group.specs.Value.{AcceptedGroup}
-use Rattle.group.specs.Parts.{outcomeOfVerdict}
-use Rattle.group.proofs.CallLaws.{value-accepted}
-use Rattle.group.proofs.Values.{word-clear, word-above}
-use Rattle.group.proofs.Walking.{walk-refused, other-word, past-order, walk-passes}
+use Rattle.group.proofs.Accepted.{value-accepted}
+use Rattle.orbit.proofs.WordCalls.{word-clear, word-above}
+use Rattle.orbit.proofs.Walking.{walk-refused, other-word, past-order, walk-passes}
 use borrow.Author.Needs.{needs}
 use Rattle.orbit.proofs.steps.walk_checked.Statement.{statement}
 use Rattle.orbit.proofs.steps.walk_checked.Tie as tie
@@ -43,7 +41,7 @@ accepted c =
     value-accepted (c .before .before .before .before .before .before .before .args .walk .group) (search needs) (search needs) (sym (c .before .before .before .before .value-checked .ensures) ∙ ap outcomeOfVerdict (c .before .before .enum-told .given .1))
 
 few : (c : tie.After-checked) → c .before .before .before .before .before .before .before .args .walk .group .sites ≤ maxSites
-few c = leb-true (c .before .before .before .before .before .before .before .args .walk .group .sites) maxSites (accepted c .few)
+few c = accepted c .few
 
 -- and its word
 clear :
