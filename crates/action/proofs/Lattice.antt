@@ -113,11 +113,7 @@ module _ {n s a : ℕ} (x : Axis n s a) where
   side-positive : 0 < a
   side-positive = pos-of-dvd-of-pos (dvd-trans a (dvd-mul-left a s) (x .whole)) (x .sites-positive)
 
-  rounds : ℕ
-  rounds = n / (s * a)
-
-  all-rounds : s * a * rounds ≡ n
-  unfolding rounds
+  all-rounds : s * a * (n / (s * a)) ≡ n
   all-rounds = mul-div-cancel' (s * a) (x .whole)
 
   shifted-below : (q : ℕ) → q < n → shifted s a q < n
@@ -125,16 +121,16 @@ module _ {n s a : ℕ} (x : Axis n s a) where
   shifted-below q h =
       omega (arith, all-rounds, digits-lt high (digits-lt (mod-lt (q / s % a + 1) side-positive) (mod-lt q stride-positive)))
     where
-      high : q / (s * a) < rounds
+      high : q / (s * a) < n / (s * a)
       high = div-lt-iff-lt-mul (mul-pos stride-positive side-positive) .1 (omega (arith, all-rounds))
 
   -- a shift of n sites does not touch what stands behind them
   shifted-add : (q y : ℕ) → shifted s a (q + n * y) ≡ shifted s a q + n * y
   unfolding shifted
   shifted-add q y =
-      let behind : s * a * rounds * y ≡ n * y = ap (λ (z : ℕ). z * y) all-rounds in
+      let behind : s * a * (n / (s * a)) * y ≡ n * y = ap (λ (z : ℕ). z * y) all-rounds in
       ap (shifted s a) (omega (arith, site-of s a q))
-      ∙ shifted-site s a (q % s) (q / s % a) (q / (s * a) + rounds * y) (mod-lt q stride-positive) (mod-lt (q / s) side-positive)
+      ∙ shifted-site s a (q % s) (q / s % a) (q / (s * a) + n / (s * a) * y) (mod-lt q stride-positive) (mod-lt (q / s) side-positive)
       ∙ omega arith
 
   -- c applications add c to the place
