@@ -1,5 +1,6 @@
 -- The shifts along the axes of a lattice are valid generators: they permute the sites, have the sides as their exact orders, and commute
--- (`shifts-valid`). The four named lattices are cases of it.
+-- (`shifts-valid`). The four named lattices are cases of it, and where their generators send a site is said by its coordinates (`chain-sends` and
+-- those after it).
 -- What carries it: a site is l + stride c + stride side h with l < stride and c < side, and l, c and h can be read off it (`site-low`, `site-place`,
 -- `site-high`), so that a shift turns c into (c + 1) mod side and leaves l and h.
 use Prim.Native.Nat.{ℕ, zero, suc, _+_, _*_, _/_, _%_, _<_, _∣_}
@@ -265,6 +266,7 @@ module _ {n : ℕ} (some : 0 < n) where
       let y = axis-first t b sides rounds e in
       shifts-commute (axis-within x (axis-last (stride-positive y) (side-positive y))) sides rounds (sides-behind t b sides rounds e) g m
 
+  -- each side is the exact order of its shift, and the shifts permute the sites and commute
   pub shifts-valid : (stride : ℕ) (sides : List ℕ) (rounds : ℕ) → stride * product sides * rounds ≡ n → Valid n (shifts n stride sides)
   unfolding shifts
   shifts-valid s [] rounds e = valid-nil n
@@ -303,9 +305,9 @@ unfolding torus3 product
 torus3-valid lx ly lz p r u = shifts-valid (mul-pos (mul-pos p r) u) 1 (lx ∷ ly ∷ lz ∷ []) 1 (omega arith)
 
 -- the shift along an axis moves the site at place c to place c + 1, round at the end, and leaves what is in front of the axis and behind it
-module _ (n s a l c h : ℕ) (low : l < s) (place : c < a) where
-  shift-site : (q : ℕ) → q < n → q ≡ site s a l c h → target (shift n s a .perm) q ≡ site s a l ((c + 1) % a) h
-  shift-site q r e = target-shift n s a q r ∙ ap (shifted s a) e ∙ shifted-site s a l c h low place
+shift-site :
+    (n s a l c h : ℕ) → l < s → c < a → (q : ℕ) → q < n → q ≡ site s a l c h → target (shift n s a .perm) q ≡ site s a l ((c + 1) % a) h
+shift-site n s a l c h low place q r e = target-shift n s a q r ∙ ap (shifted s a) e ∙ shifted-site s a l c h low place
 
 pub chain-sends : (n j : ℕ) → j < n → sends (chain n) 0 j ≡ (j + 1) % n
 unfolding chain sends
