@@ -58,7 +58,7 @@ module _ (g : Group) where
     -- that reaches the word (`reaches`), which no earlier index does (`noneEarlier`); and the index leads from the word back to w bytes (`leadsBack`)
 
     pub least-word : (bytes : List ℕ) → AcceptedWord n bytes → CanonicalAnswer gs (w bytes) (withIndexOutcome g n bytes)
-    least-word = canonical-answer g (given-group g given) (Given.given-long g given)
+    least-word = canonical-answer g (given-group g given)
 
     -- ---- The second sentence: of all reduced mode lists, exactly as many make canonicalize_in_sector keep a word as its orbit has different words
 

@@ -1,4 +1,4 @@
--- A group value that accepted generators give: it is accepted, its lists fill their places, and it holds as many valid generators as it says.
+-- A group value that accepted generators give: it is accepted, and it holds as many valid generators as it says.
 use Prim.Native.Nat.{_≤_}
 use mathlib.Core.Path.{_≡_}
 use mathlib.Core.Bool.{false}
@@ -16,28 +16,19 @@ use Rattle.group.proofs.Accepted.{accepted-tables}
 use Rattle.group.proofs.Given.{Long, made-accepted, held-valid}
 
 module _ (g : Group) (given : GivenBy g) where
-  made : AcceptedGroup g × Long g
-  made = made-accepted (g .sites) (given .list) (given .orders) g (given .given)
-
   pub given-accepted : AcceptedGroup g
-  given-accepted = made .0
-
-  pub given-long : Long g
-  given-long = made .1
+  given-accepted = made-accepted (g .sites) (given .list) (given .orders) g (given .given)
 
   pub given-valid : Valid (g .sites) (generatorsOf g)
-  given-valid = held-valid g given-accepted given-long
+  given-valid = held-valid g given-accepted
 
   pub given-length : length (generatorsOf g) ≡ g .generators
   unfolding generatorsOf
-  given-length = generators-length (accepted-tables g given-accepted (given-long .targets) (given-long .orders))
+  given-length = generators-length (accepted-tables g given-accepted)
 
   pub given-small : orderOf (generatorsOf g) ≤ maxOrder
   unfolding generatorsOf
-  given-small = accepted-tables g given-accepted (given-long .targets) (given-long .orders) .small
+  given-small = accepted-tables g given-accepted .small
 
   pub given-sites : g .sites ≤ maxSites
-  given-sites = leb-true (g .sites) maxSites (given-accepted .few)
-
-  pub given-few : ltb maxSites (g .sites) ≡ false
-  given-few = le-ltb maxSites (g .sites) given-sites
+  given-sites = given-accepted .few

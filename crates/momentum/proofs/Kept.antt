@@ -33,7 +33,7 @@ use Rattle.group.proofs.Given.{unless-answer, word-passes}
 use Rattle.momentum.specs.Calls.{modeCount, kept, dropped, Row, decision, sectorOutcome}
 use Rattle.momentum.specs.Counts.{acceptedWords, isOwn, isKept, pairs}
 use Rattle.momentum.proofs.Pairs.{count-pairs, count-both, total-select, every-false}
-use Rattle.momentum.proofs.Words.{sameBytes-encode}
+use Rattle.momentum.proofs.Words.{sameNumbers-encode}
 use Rattle.momentum.proofs.Modes.{modes-length}
 use Rattle.momentum.proofs.Traversals.{keeps-broken}
 use Rattle.momentum.proofs.Outcomes.{sector-decision}
@@ -106,7 +106,7 @@ module _ (g : Group) where
 
       pub index-answer : withIndexOutcome g n bytes ≡ answer (least gs w, indexBack gs w)
       unfolding withIndexOutcome
-      index-answer = call-answers (wordCallChecks g n bytes) _ (word-passes g (given-accepted g given) bytes word)
+      index-answer = call-answers (wordCallChecks g n bytes) _ (word-call-passes g (given-accepted g given) bytes word)
 
       module _ (ks : List ℤ) (modes : length ks ≡ g .generators) (k : ℕ) (room : k ≡ g .generators) where
         pub sector-answer : sectorOutcome g n bytes ks k ≡ answer (decision gs ks w)
@@ -126,19 +126,15 @@ module _ (g : Group) where
       -- what goes with a kept word
       pub kept-row :
           (ks : List ℤ) (k : ℕ) (r : Row) → sectorOutcome g n bytes ks k ≡ answer (kept r)
-          → (i : ℕ)
-          × (withIndexOutcome g n bytes ≡ answer (r .word, i))
-          × (r .counter ≡ digits gs i)
-          × (r .size ≡ length (orbit gs w))
+          → (withIndexOutcome g n bytes ≡ answer (r .word, r .index))
+                    × (r .size ≡ length (orbit gs w))
           × (r .size * length (fixing gs w) ≡ orderOf gs)
       unfolding sectorOutcome decision
       kept-row ks k r e =
           let checks = wordCallChecks g n bytes ++ (modeCount g ks ∷ listLength k (g .generators) ∷ []) in
           let row = row-by (keeps gs ks w) _ r (unless-answer checks (decision gs ks w) (kept r) e .1) in
           let size : r .size ≡ length (orbit gs w) = ap (λ (x : Row). x .size) (sym row) ∙ Action.orbitSize-orbit valid w (decode-length word) in (
-            indexBack gs w,
-            index-answer ∙ ap (λ (x : Row). answer (x .word, indexBack gs w)) row,
-            ap (λ (x : Row). x .counter) (sym row),
+            index-answer ∙ ap (λ (x : Row). answer (x .word, x .index)) row,
             size,
             ap (λ (x : ℕ). x * length (fixing gs w)) size ∙ sym (Action.orbit-stabilizer valid w (decode-length word)),
           )
@@ -175,7 +171,7 @@ module _ (g : Group) where
         unfolding isRepresentative
         own =
             ap (isOwn coded) (index-answer coded word)
-            ∙ rw decoded (sameBytes-encode planeLength n (given-sites g given) (least gs v) v (least-length valid v ∙ letters) letters)
+            ∙ rw decoded (sameNumbers-encode planeLength n (given-sites g given) (least gs v) v (least-length valid v ∙ letters) letters)
 
         count-own : count (λ ks. keptOwn ks coded) (allModes gs) ≡ cond (isRepresentative gs v) (keptLists (keeps gs) gs v) 0
         count-own =

@@ -19,26 +19,24 @@ use Rattle.action.specs.Orbit.{least, indexBack, orbitSize}
 use Rattle.action.specs.Sector.{numerator, keeps}
 use Rattle.group.specs.declared.Group.{Group}
 use Rattle.outcome.specs.declared.Refusal.{Refusal}
+use Rattle.outcome.specs.declared.Refusal.the-variants as Refusal
 use Rattle.group.specs.Value.{generatorsOf, AcceptedGroup}
 use Rattle.group.specs.Calls.{refusalOf, listLength, wordCallChecks}
 use Rattle.group.proofs.CallLaws.{call-refused, front-refused}
-use Rattle.momentum.specs.declared.inner.Placement.{Placement}
-use Rattle.momentum.specs.declared.inner.Placement.the-variants as Placement
 use Rattle.momentum.specs.Calls.{modeCount, numeratorOutcome, numerators, tableOutcome, Decision, kept, dropped, Row, decision, sectorOutcome}
-use Rattle.momentum.specs.Parts.{placement, placementWord}
 
 module _ (g : Group) (ok : AcceptedGroup g) where
   few : ltb maxSites (g .sites) ≡ false
-  few = le-ltb maxSites (g .sites) (leb-true (g .sites) maxSites (ok .few))
+  few = le-ltb maxSites (g .sites) (ok .few)
 
   module _ (ks : List ℤ) where
     -- ---- 18
 
-    pub numerator-modes : (cs : List ℕ) → (length ks ≡ g .generators → ⊥) → numeratorOutcome g ks cs ≡ refused 18 []
+    pub numerator-modes : (cs : List ℕ) → (length ks ≡ g .generators → ⊥) → numeratorOutcome g ks cs ≡ refusalOf Refusal.ModeCount
     unfolding numeratorOutcome
     numerator-modes cs d = simp (few, ok .isOne, ne-eqb (length ks) (g .generators) d)
 
-    pub table-modes : (k : ℕ) → (length ks ≡ g .generators → ⊥) → tableOutcome g ks k ≡ refused 18 []
+    pub table-modes : (k : ℕ) → (length ks ≡ g .generators → ⊥) → tableOutcome g ks k ≡ refusalOf Refusal.ModeCount
     unfolding tableOutcome
     table-modes k d = simp (few, ok .isOne, ne-eqb (length ks) (g .generators) d)
 
@@ -46,7 +44,7 @@ module _ (g : Group) (ok : AcceptedGroup g) where
       -- ---- the numerator: 20, or its answer
 
       module _ (cs : List ℕ) where
-        pub numerator-length : (length cs ≡ g .generators → ⊥) → numeratorOutcome g ks cs ≡ refused 20 []
+        pub numerator-length : (length cs ≡ g .generators → ⊥) → numeratorOutcome g ks cs ≡ refusalOf Refusal.CounterLength
         unfolding numeratorOutcome
         numerator-length d = simp (few, ok .isOne, eq-eqb (length ks) (g .generators) modes, ne-eqb (length cs) (g .generators) d)
 
@@ -57,7 +55,7 @@ module _ (g : Group) (ok : AcceptedGroup g) where
       -- ---- the table: 21, or its answer
 
       module _ (k : ℕ) where
-        pub table-length : (k ≡ orderOf (generatorsOf g) → ⊥) → tableOutcome g ks k ≡ refused 21 []
+        pub table-length : (k ≡ orderOf (generatorsOf g) → ⊥) → tableOutcome g ks k ≡ refusalOf Refusal.ListLength
         unfolding tableOutcome
         table-length d = simp (few, ok .isOne, eq-eqb (length ks) (g .generators) modes, ne-eqb k (orderOf (generatorsOf g)) d)
 
@@ -85,52 +83,21 @@ module _ (g : Group) (ok : AcceptedGroup g) (bytes : List ℕ) (word : AcceptedW
   abbrev w : Word
   w = lettersIn (g .sites) bytes
 
-  long : eqb (length bytes) wordLength ≡ true
-  long = eq-eqb (length bytes) wordLength (word .long)
+  -- the checks before 18 are passed
+  own : verdict (wordCallChecks g (g .sites) bytes ++ (modeCount g ks ∷ listLength k (g .generators) ∷ [])) ≡ verdict (modeCount g ks ∷ listLength k (g .generators) ∷ [])
+  own =
+      verdict-append (wordCallChecks g (g .sites) bytes) (modeCount g ks ∷ listLength k (g .generators) ∷ [])
+      ∙ call-answers (wordCallChecks g (g .sites) bytes) (verdict (modeCount g ks ∷ listLength k (g .generators) ∷ [])) (word-call-passes g ok bytes word)
 
-  same : eqb (g .sites) (g .sites) ≡ true
-  same = eq-eqb (g .sites) (g .sites) refl
-
-  pub sector-modes : (length ks ≡ g .generators → ⊥) → sectorOutcome g (g .sites) bytes ks k ≡ refused 18 []
+  pub sector-modes : (length ks ≡ g .generators → ⊥) → sectorOutcome g (g .sites) bytes ks k ≡ refusalOf Refusal.ModeCount
   unfolding sectorOutcome
-  sector-modes d = simp (few g ok, ok .isOne, long, same, word .xClear, word .zClear, ne-eqb (length ks) (g .generators) d)
+  sector-modes d = rw (own, ne-eqb (length ks) (g .generators) d)
 
   module _ (modes : length ks ≡ g .generators) where
-    pub sector-length : (k ≡ g .generators → ⊥) → sectorOutcome g (g .sites) bytes ks k ≡ refused 21 []
+    pub sector-length : (k ≡ g .generators → ⊥) → sectorOutcome g (g .sites) bytes ks k ≡ refusalOf Refusal.ListLength
     unfolding sectorOutcome
-    sector-length d =
-        simp
-        (few g ok, ok .isOne, long, same, word .xClear, word .zClear, eq-eqb (length ks) (g .generators) modes, ne-eqb k (g .generators) d)
+    sector-length d = rw (own, eq-eqb (length ks) (g .generators) modes, ne-eqb k (g .generators) d)
 
-    module _ (room : k ≡ g .generators) where
-      pub sector-decision : sectorOutcome g (g .sites) bytes ks k ≡ answer (decision gs ks w)
-      unfolding sectorOutcome
-      sector-decision =
-          simp
-          (few g ok, ok .isOne, long, same, word .xClear, word .zClear, eq-eqb (length ks) (g .generators) modes, eq-eqb k (g .generators) room)
-
-      -- by where the word stands
-      pub sector-dropped : placement gs ks w ≡ Placement.Dropped → sectorOutcome g (g .sites) bytes ks k ≡ answer dropped
-      unfolding decision
-      sector-dropped e = sector-decision ∙ go (keeps gs ks w) e
-        where
-          go : (b : Bool) → cond b (Placement.Kept (indexBack gs w) (orbitSize gs w)) Placement.Dropped ≡ Placement.Dropped
-              → answer (cond {A = Decision Row} b (kept (record { word = least gs w; counter = digits gs (indexBack gs w); size = orbitSize gs w })) dropped) ≡ answer dropped
-          go true h = let z : _≡_ {A = ℕ} 0 1 = cc in absurd (omega arith)
-          go false h = refl
-
-      pub sector-kept :
-          {i size : ℕ} → placement gs ks w ≡ Placement.Kept i size
-          → (sectorOutcome g (g .sites) bytes ks k ≡ answer (kept (record { word = least gs w; counter = digits gs i; size = size })))
-          × (placementWord gs ks w ≡ bytesOf (least gs w))
-      unfolding decision
-      sector-kept {i} {size} e = go (keeps gs ks w) refl e
-        where
-          go : (b : Bool) → keeps gs ks w ≡ b → cond b (Placement.Kept (indexBack gs w) (orbitSize gs w)) Placement.Dropped ≡ Placement.Kept i size
-              → (sectorOutcome g (g .sites) bytes ks k ≡ answer (kept (record { word = least gs w; counter = digits gs i; size = size })))
-              × (placementWord gs ks w ≡ bytesOf (least gs w))
-          go true t h =
-              let index : indexBack gs w ≡ i = cc in
-              let same : orbitSize gs w ≡ size = cc in
-              (sector-decision ∙ rw (t, index, same), rw t)
-          go false t h = let z : _≡_ {A = ℕ} 0 1 = cc in absurd (omega arith)
+    pub sector-decision : k ≡ g .generators → sectorOutcome g (g .sites) bytes ks k ≡ answer (decision gs ks w)
+    unfolding sectorOutcome
+    sector-decision room = rw (own, eq-eqb (length ks) (g .generators) modes, eq-eqb k (g .generators) room)

@@ -1,6 +1,6 @@
 -- One traversal of the indices: what an index does to a word, by the bytes that it reaches, and how many of the indices so far fix the word.
 -- What carries it: the numbers below i + 1 are those below i, and i (`below-next`), so that the test of index i takes what is known of the indices
--- below i to those below i + 1 (`passed-moves`, `passed-fixes`), or shows that the modes drop the word (`traversal-broken`).
+-- below i to those below i + 1 (`passed-moves`, `passed-fixes`), or shows that the modes drop the word (`placed-broken`).
 use Prim.Native.Nat.{ℕ, _+_, _≤_, _<_, _/_}
 use mathlib.Core.Path.{_≡_, refl, sym, ap, ap₂, _∙_}
 use mathlib.Core.Logic.{⊎-elim}
@@ -32,9 +32,8 @@ use Rattle.momentum.specs.declared.inner.Placement.{Placement}
 use Rattle.momentum.specs.declared.inner.Placement.the-variants as Placement
 use Rattle.momentum.specs.declared.stabilizer.Test.{Test}
 use Rattle.momentum.specs.declared.stabilizer.Test.the-variants as Test
-use Rattle.momentum.specs.declared.stabilizer.Traversal.{Traversal}
-use Rattle.momentum.specs.declared.stabilizer.Traversal.the-variants as Traversal
-use Rattle.momentum.specs.Parts.{testOf, traversal, placement, placementWord}
+use Rattle.momentum.specs.Calls.{Decision, kept, dropped, Row, decision, rowWord}
+use Rattle.momentum.specs.Parts.{testOf, placementOf}
 
 -- ---- tests of the numbers below i + 1
 
@@ -160,10 +159,16 @@ module _ (gs : List Generator) (ks : List ℤ) (w : Word) where
       unfolding fixing
       all-fixing = p .0 ∙ count-select (fixes gs w) (below i) ∙ rw e
 
-      pub traversal-kept : {j : ℕ} → j ≡ forward gs w → Traversal.Kept j k ≡ traversal gs ks w
-      traversal-kept h = rw all-kept (ap₂ Traversal.Kept h all-fixing)
+      pub fixing-some : {n : ℕ} → Valid n gs → 0 < k
+      fixing-some v = rw all-fixing (fixing-positive v w)
 
-      pub word-kept : bytesOf (least gs w) ≡ placementWord gs ks w
+      -- by the inverse of the index that reaches the least word, and by the order
+      pub placed-kept : {j b o : ℕ} → j ≡ forward gs w → b ≡ inverse gs j → o ≡ orderOf gs → Placement.Kept b (o / k) ≡ placementOf (decision gs ks w)
+      unfolding decision indexBack orbitSize
+      placed-kept h back order = rw (all-kept, back, h, order, all-fixing)
+
+      pub word-kept : bytesOf (least gs w) ≡ rowWord (decision gs ks w)
+      unfolding decision
       word-kept = rw all-kept
 
   -- an index that breaks
@@ -182,41 +187,27 @@ module _ (gs : List Generator) (ks : List ℤ) (w : Word) where
       drops : keeps gs ks w ≡ false
       drops = let (f, t) = of-breaks gs ks w i e in keeps-broken f t
 
-      pub traversal-broken : Traversal.Dropped ≡ traversal gs ks w
-      traversal-broken = rw drops
+      pub placed-broken : Placement.Dropped ≡ placementOf (decision gs ks w)
+      unfolding decision
+      placed-broken = rw drops
 
-      pub word-broken : noWord ≡ placementWord gs ks w
+      pub word-broken : noWord ≡ rowWord (decision gs ks w)
+      unfolding decision
       word-broken = rw drops
 
-  -- ---- what the answer of a traversal says
+-- ---- what the numbers of a decision say of it
 
-  module _ (e : traversal gs ks w ≡ Traversal.Dropped) where
-    of-dropped : keeps gs ks w ≡ false
-    of-dropped = go (keeps gs ks w) e
-      where
-        go : (b : Bool) → cond b (Traversal.Kept (forward gs w) (length (fixing gs w))) Traversal.Dropped ≡ Traversal.Dropped → b ≡ false
-        go true h = let z : _≡_ {A = ℕ} 0 1 = cc in absurd (omega arith)
-        go false h = refl
+module _ (d : Decision Row) where
+  pub placed-dropped : placementOf d ≡ Placement.Dropped → d ≡ dropped
+  placed-dropped e = go d e
+    where
+      go : (x : Decision Row) → placementOf x ≡ Placement.Dropped → x ≡ dropped
+      go (kept r) h = let z : _≡_ {A = ℕ} 0 1 = cc in absurd (omega arith)
+      go dropped h = refl
 
-    pub dropped-placement : Placement.Dropped ≡ placement gs ks w
-    dropped-placement = rw of-dropped
-
-    pub dropped-word : noWord ≡ placementWord gs ks w
-    dropped-word = rw of-dropped
-
-  module _ {j k : ℕ} (e : traversal gs ks w ≡ Traversal.Kept j k) where
-    of-kept : (keeps gs ks w ≡ true) × (j ≡ forward gs w) × (k ≡ length (fixing gs w))
-    of-kept = go (keeps gs ks w) e
-      where
-        go : (b : Bool) → cond b (Traversal.Kept (forward gs w) (length (fixing gs w))) Traversal.Dropped ≡ Traversal.Kept j k
-            → (b ≡ true) × (j ≡ forward gs w) × (k ≡ length (fixing gs w))
-        go true h = (refl, cc, cc)
-        go false h = let z : _≡_ {A = ℕ} 0 1 = cc in absurd (omega arith)
-
-    pub kept-positive : {n : ℕ} → Valid n gs → 0 < k
-    kept-positive v = rw (of-kept .2) (fixing-positive v w)
-
-    -- by the inverse of the index, and by the order
-    pub kept-placement : {i o : ℕ} → i ≡ inverse gs j → o ≡ orderOf gs → Placement.Kept i (o / k) ≡ placement gs ks w
-    unfolding indexBack orbitSize
-    kept-placement a b = rw (of-kept .0, a, b, of-kept .1, of-kept .2)
+  pub placed-row : {i size : ℕ} → placementOf d ≡ Placement.Kept i size → (r : Row) × (d ≡ kept r) × (r .index ≡ i) × (r .size ≡ size)
+  placed-row {i} {size} e = go d e
+    where
+      go : (x : Decision Row) → placementOf x ≡ Placement.Kept i size → (r : Row) × (x ≡ kept r) × (r .index ≡ i) × (r .size ≡ size)
+      go (kept r) h = (r, refl, cc, cc)
+      go dropped h = let z : _≡_ {A = ℕ} 0 1 = cc in absurd (omega arith)

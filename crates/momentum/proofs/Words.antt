@@ -16,32 +16,18 @@ use Rattle.action.specs.Lists.{Member, NoRepeats}
 use Rattle.action.specs.Count.{allWords}
 use Rattle.action.proofs.Lists.{bool-ext, member-map, of-member-map, noRepeats-map}
 use Rattle.action.proofs.Pairs.{words-all, words-long, words-noRepeats}
-use Rattle.momentum.specs.Counts.{acceptedWords, sameBytes}
-
-sameBytes-refl : (xs : List ℕ) → sameBytes xs xs ≡ true
-unfolding sameBytes
-sameBytes-refl [] = refl
-sameBytes-refl (a ∷ xs) = ap₂ _&&_ (eq-eqb a a refl) (sameBytes-refl xs)
-
-sameBytes-eq : (xs ys : List ℕ) → sameBytes xs ys ≡ true → xs ≡ ys
-unfolding sameBytes
-sameBytes-eq [] [] e = refl
-sameBytes-eq [] (b ∷ ys) e = absurd (false≢true e)
-sameBytes-eq (a ∷ xs) [] e = absurd (false≢true e)
-sameBytes-eq (a ∷ xs) (b ∷ ys) e =
-    let p = and-eq-true-iff (eqb a b) (sameBytes xs ys) .0 e in
-    ap₂ _∷_ (eqb-true a b (p .0)) (sameBytes-eq xs ys (p .1))
+use Rattle.momentum.specs.Counts.{acceptedWords, sameNumbers}
 
 -- words of n letters in planes of m bytes
 module _ (m n : ℕ) (few : n ≤ 8 * m) (v w : Word) (longV : length v ≡ n) (longW : length w ≡ n) where
   pub encode-injective : encode m v ≡ encode m w → v ≡ w
   encode-injective e = sym (encoded-decode m v longV few refl) ∙ encoded-decode m w longW few e
 
-  pub sameBytes-encode : sameBytes (encode m v) (encode m w) ≡ same v w
-  sameBytes-encode =
-      bool-ext (sameBytes (encode m v) (encode m w)) (same v w)
-      (λ e. ap (same v) (sym (encode-injective (sameBytes-eq (encode m v) (encode m w) e))) ∙ same-refl v)
-      (λ e. ap (λ (u : Word). sameBytes (encode m v) (encode m u)) (sym (same-eq v w e)) ∙ sameBytes-refl (encode m v))
+  pub sameNumbers-encode : sameNumbers (encode m v) (encode m w) ≡ same v w
+  sameNumbers-encode =
+      bool-ext (sameNumbers (encode m v) (encode m w)) (same v w)
+      (λ e. ap (same v) (sym (encode-injective (sameNumbers-eq (encode m v) (encode m w) e))) ∙ same-refl v)
+      (λ e. ap (λ (u : Word). sameNumbers (encode m v) (encode m u)) (sym (same-eq v w e)) ∙ sameNumbers-refl (encode m v))
 
 -- the list of the accepted words
 

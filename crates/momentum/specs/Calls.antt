@@ -6,7 +6,8 @@ use lib.Dec.{eqb}
 use lib.IntN.{ℤ}
 use lib.ListN.{length}
 use Rattle.pauli_word.specs.Limits.{planeLength}
-use Rattle.outcome.specs.Outcome.{Outcome, answer, Check, unless}
+use Rattle.outcome.specs.declared.Refusal.the-variants as Refusal
+use Rattle.outcome.specs.Outcome.{Outcome, answer, refusalOf, Check, rule, unless}
 use Rattle.pauli_word.specs.Word.{Word}
 use Rattle.pauli_word.specs.Bytes.{decode, encode}
 use Rattle.action.specs.Lists.{below}
@@ -22,11 +23,11 @@ use Rattle.momentum.specs.declared.Sector.the-variants as Sector
 
 -- 18: mode count is not the generator count
 abbrev pub modeCount : Group → List ℤ → Check
-modeCount g ks = record { number = 18; values = []; broken = not (eqb (length ks) (g .generators)) }
+modeCount g ks = rule Refusal.ModeCount (not (eqb (length ks) (g .generators)))
 
 -- 20: counter length is not the generator count
 abbrev pub counterLength : Group → List ℕ → Check
-counterLength g cs = record { number = 20; values = []; broken = not (eqb (length cs) (g .generators)) }
+counterLength g cs = rule Refusal.CounterLength (not (eqb (length cs) (g .generators)))
 
 -- ---- character_numerator: 1, 14, 18, 20, then the numerator of the counter
 
@@ -49,15 +50,15 @@ pub data Decision (A : Type 0) : Type 0 where
   kept : A → Decision A
   dropped : Decision A
 
--- what goes with a kept word: the least word of its orbit, the counter of the index that leads from it back to the word, and the orbit size
+-- what goes with a kept word: the least word of its orbit, the index that leads from it back to the word, and the orbit size
 pub record Row : Type 0 where
   pub word : Word
-  pub counter : List ℕ
+  pub index : ℕ
   pub size : ℕ
 
 -- dropped exactly if some index that fixes the word has a numerator other than 0
 unfoldable pub decision : List Generator → List ℤ → Word → Decision Row
-decision gs ks w = cond (keeps gs ks w) (kept (record { word = least gs w; counter = digits gs (indexBack gs w); size = orbitSize gs w })) dropped
+decision gs ks w = cond (keeps gs ks w) (kept (record { word = least gs w; index = indexBack gs w; size = orbitSize gs w })) dropped
 
 unfoldable pub sectorOutcome : Group → ℕ → List ℕ → List ℤ → ℕ → Outcome (Decision Row)
 sectorOutcome g n bytes ks k =
@@ -79,7 +80,7 @@ abbrev pub rowWord : Decision Row → List ℕ
 rowWord (kept r) = bytesOf (r .word)
 rowWord dropped = noWord
 
--- the counter list afterwards: as it was where the word is dropped
-abbrev pub rowCounter : List ℕ → Decision Row → List ℕ
-rowCounter list (kept r) = r .counter
-rowCounter list dropped = list
+-- the counter list afterwards: the digits of the index, or as it was where the word is dropped
+abbrev pub rowCounter : List Generator → List ℕ → Decision Row → List ℕ
+rowCounter gs list (kept r) = digits gs (r .index)
+rowCounter gs list dropped = list

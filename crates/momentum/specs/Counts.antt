@@ -16,17 +16,10 @@ unfoldable pub acceptedWords : ℕ → List (List ℕ)
 unfolding allWords
 acceptedWords n = map bytesOf (allWords n)
 
--- whether two lists of bytes are the same
-unfoldable pub sameBytes : List ℕ → List ℕ → Bool
-sameBytes [] [] = true
-sameBytes [] (b ∷ bs) = false
-sameBytes (a ∷ xs) [] = false
-sameBytes (a ∷ xs) (b ∷ bs) = eqb a b && sameBytes xs bs
-
 -- whether a call of canonicalize_with_index answers with the word that it was handed
 abbrev pub isOwn : List ℕ → Outcome (Word × ℕ) → Bool
 isOwn bytes (refused k vs) = false
-isOwn bytes (answer p) = sameBytes (wordOf p) bytes
+isOwn bytes (answer p) = sameNumbers (wordOf p) bytes
 
 -- whether a call of canonicalize_in_sector answers that the word is kept
 abbrev pub isKept : Outcome (Decision Row) → Bool

@@ -12,7 +12,6 @@ use crate::InSector;
 use crate::Sector;
 use crate::phase;
 use crate::stabilizer;
-use crate::stabilizer::Traversal;
 use group::Group;
 use pauli_word::WORD_BYTES;
 
@@ -84,7 +83,7 @@ pub fn sector_of(group: Group, word: &[u8], modes: &[i32], counter: &mut [u32]) 
     requires { ⌜ AcceptedWord (group .sites) (now word) ⌝ }
     ensures answer { λ r. ⌜ outcomeOfSector (r .answer) ≡ onAnswer sizeOf (sectorOutcome group (group .sites) (now (word .entry)) (now (modes .entry)) (length (now (counter .entry)))) ⌝ }
     ensures word { λ r. ⌜ r .word ≡ orElse rowWord noWord (sectorOutcome group (group .sites) (now (word .entry)) (now (modes .entry)) (length (now (counter .entry)))) ⌝ }
-    ensures counter { λ _. ⌜ now (counter .exit) ≡ orElse (rowCounter (now (counter .entry))) (now (counter .entry)) (sectorOutcome group (group .sites) (now (word .entry)) (now (modes .entry)) (length (now (counter .entry)))) ⌝ }
+    ensures counter { λ _. ⌜ now (counter .exit) ≡ orElse (rowCounter (generatorsOf group) (now (counter .entry))) (now (counter .entry)) (sectorOutcome group (group .sites) (now (word .entry)) (now (modes .entry)) (length (now (counter .entry)))) ⌝ }
 {
     let generators = group.generators;
     if modes.len() != generators {
@@ -103,7 +102,7 @@ pub fn decided(group: Group, word: &[u8], modes: &[i32], counter: &mut [u32]) ->
     requires { ⌜ (length (now modes) ≡ group .generators) × (length (now counter) ≡ group .generators) ⌝ }
     ensures answer { λ r. ⌜ outcomeOfSector (r .answer) ≡ onAnswer sizeOf (sectorOutcome group (group .sites) (now (word .entry)) (now (modes .entry)) (length (now (counter .entry)))) ⌝ }
     ensures word { λ r. ⌜ r .word ≡ orElse rowWord noWord (sectorOutcome group (group .sites) (now (word .entry)) (now (modes .entry)) (length (now (counter .entry)))) ⌝ }
-    ensures counter { λ _. ⌜ now (counter .exit) ≡ orElse (rowCounter (now (counter .entry))) (now (counter .entry)) (sectorOutcome group (group .sites) (now (word .entry)) (now (modes .entry)) (length (now (counter .entry)))) ⌝ }
+    ensures counter { λ _. ⌜ now (counter .exit) ≡ orElse (rowCounter (generatorsOf group) (now (counter .entry))) (now (counter .entry)) (sectorOutcome group (group .sites) (now (word .entry)) (now (modes .entry)) (length (now (counter .entry)))) ⌝ }
 {
     let found = placement_of(group, word, modes);
     let answer = found.answer;
@@ -127,9 +126,9 @@ pub fn decided(group: Group, word: &[u8], modes: &[i32], counter: &mut [u32]) ->
     }
 }
 
-// Where a word stands in its orbit, if modes keep it.
+// What modes make of a word, by numbers.
 pub enum Placement {
-    // The index that leads from the least word to the word, and the orbit size.
+    // They keep it: the index that leads from the least word to the word, and the orbit size.
     Kept(usize, usize),
     Dropped,
 }
@@ -140,41 +139,26 @@ pub struct Placed {
     pub word: [u8; WORD_BYTES],
 }
 
-// The decision with the index in the place of its counter.
+// The decision for an accepted group and word and a mode for each generator.
 pub fn placement_of(group: Group, word: &[u8], modes: &[i32]) -> Placed
     requires { ⌜ AcceptedGroup group ⌝ }
     requires { ⌜ AcceptedWord (group .sites) (now word) ⌝ }
     requires { ⌜ length (now modes) ≡ group .generators ⌝ }
-    ensures answer { λ r. ⌜ r .answer ≡ placement (generatorsOf group) (now (modes .entry)) (lettersIn (group .sites) (now (word .entry))) ⌝ }
-    ensures word { λ r. ⌜ r .word ≡ placementWord (generatorsOf group) (now (modes .entry)) (lettersIn (group .sites) (now (word .entry))) ⌝ }
+    ensures answer { λ r. ⌜ r .answer ≡ placementOf (decision (generatorsOf group) (now (modes .entry)) (lettersIn (group .sites) (now (word .entry)))) ⌝ }
+    ensures word { λ r. ⌜ r .word ≡ rowWord (decision (generatorsOf group) (now (modes .entry)) (lettersIn (group .sites) (now (word .entry)))) ⌝ }
 {
     let order = group::inner::order_of(group);
     let modulus = group::inner::modulus_of(group);
-    let generators = group.generators;
-    let sites = group.sites;
     let targets = group.targets;
     let orders = group.orders;
-    let found = stabilizer::canonicalize_with_stabilizer(
+    stabilizer::canonicalize_with_stabilizer(
         &targets,
         &orders,
-        generators,
-        sites,
+        group.generators,
+        group.sites,
         order,
         modulus,
         modes,
         word,
-    );
-    let answer = found.answer;
-    let Traversal::Kept(forward, fixing) = answer else {
-        return Placed {
-            answer: Placement::Dropped,
-            word: [0u8; WORD_BYTES],
-        };
-    };
-    let index = elements::index::invert(&targets, &orders, generators, sites, forward);
-    let least = found.word;
-    Placed {
-        answer: Placement::Kept(index, order / fixing),
-        word: least,
-    }
+    )
 }

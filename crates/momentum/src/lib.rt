@@ -35,7 +35,7 @@ pub struct InSector {
 pub fn character_numerator(group: Group, modes: &[i32], counter: &[u32]) -> Number
     ensures answer { λ r. ⌜ outcomeOfNumber r ≡ numeratorOutcome group (now (modes .entry)) (now (counter .entry)) ⌝ }
 {
-    match group::value::value_checked(group) {
+    match group::inner::value_checked(group) {
         Verdict::Refused(why) => Number::Refused(why),
         Verdict::Accepted => inner::numerator_of(group, modes, counter),
     }
@@ -46,7 +46,7 @@ pub fn character_table(group: Group, modes: &[i32], list: &mut [usize]) -> Verdi
     ensures answer { λ r. ⌜ outcomeOfVerdict r ≡ onAnswer done (tableOutcome group (now (modes .entry)) (length (now (list .entry)))) ⌝ }
     ensures list { λ _. ⌜ now (list .exit) ≡ orElse itself (now (list .entry)) (tableOutcome group (now (modes .entry)) (length (now (list .entry)))) ⌝ }
 {
-    match group::value::value_checked(group) {
+    match group::inner::value_checked(group) {
         Verdict::Refused(why) => Verdict::Refused(why),
         Verdict::Accepted => inner::table_of(group, modes, list),
     }
@@ -64,9 +64,9 @@ pub fn canonicalize_in_sector(
 ) -> InSector
     ensures answer { λ r. ⌜ outcomeOfSector (r .answer) ≡ onAnswer sizeOf (sectorOutcome group n (now (word .entry)) (now (modes .entry)) (length (now (counter .entry)))) ⌝ }
     ensures word { λ r. ⌜ r .word ≡ orElse rowWord noWord (sectorOutcome group n (now (word .entry)) (now (modes .entry)) (length (now (counter .entry)))) ⌝ }
-    ensures counter { λ _. ⌜ now (counter .exit) ≡ orElse (rowCounter (now (counter .entry))) (now (counter .entry)) (sectorOutcome group n (now (word .entry)) (now (modes .entry)) (length (now (counter .entry)))) ⌝ }
+    ensures counter { λ _. ⌜ now (counter .exit) ≡ orElse (rowCounter (generatorsOf group) (now (counter .entry))) (now (counter .entry)) (sectorOutcome group n (now (word .entry)) (now (modes .entry)) (length (now (counter .entry)))) ⌝ }
 {
-    match group::value::word_call_checked(group, n, word) {
+    match orbit::inner::word_call_checked(group, n, word) {
         Verdict::Refused(why) => inner::no_row(Sector::Refused(why)),
         Verdict::Accepted => inner::sector_of(group, word, modes, counter),
     }

@@ -10,6 +10,8 @@ ghost use Rattle.action.specs.Sector.{modulus as modulusOf};
 ghost use Rattle.elements.specs.Tables.{generatorsIn, Tables};
 ghost use Rattle.group.specs.Calls.{noWord};
 ghost use Rattle.momentum.specs.Parts.{testOf, traversal, placementWord};
+use crate::inner::Placed;
+use crate::inner::Placement;
 use crate::phase;
 use pauli_word::Ordering;
 use pauli_word::WORD_BYTES;
@@ -22,19 +24,6 @@ pub enum Test {
     Fixes,
     // It fixes the word, with another numerator: the modes drop the word.
     Breaks,
-}
-
-// What one traversal of the group comes to.
-pub enum Traversal {
-    // The smallest index that reaches the least word, and the number of fixing indices.
-    Kept(usize, usize),
-    Dropped,
-}
-
-// The least word beside the traversal; zeros where the word is dropped.
-pub struct Traversed {
-    pub answer: Traversal,
-    pub word: [u8; WORD_BYTES],
 }
 
 // What an index does to a word, by the word that it reaches.
@@ -56,7 +45,7 @@ pub fn tested(
     requires { ⌜ now here ≡ bytesOf (reach (generatorsIn generators sites (now targets) (now orders)) index (lettersIn sites (now word))) ⌝ }
     ensures { λ r. ⌜ r ≡ testOf (generatorsIn generators sites (now (targets .entry)) (now (orders .entry))) (now (modes .entry)) (lettersIn sites (now (word .entry))) index ⌝ }
 {
-    let Ordering::Same = pauli_word::compare(here, word) else {
+    let Ordering::Same = pauli_word::inner::compare_bytes(here, word) else {
         return Test::Moves;
     };
     if phase::trivial(targets, orders, generators, sites, modulus, modes, index) {
@@ -67,17 +56,17 @@ pub fn tested(
 }
 
 // A traversal that has met an index that drops the word.
-pub fn dropped() -> Traversed
-    ensures { λ r. ⌜ (r .answer ≡ Traversal.Dropped) × (r .word ≡ noWord) ⌝ }
+pub fn dropped() -> Placed
+    ensures { λ r. ⌜ (r .answer ≡ Placement.Dropped) × (r .word ≡ noWord) ⌝ }
 {
-    Traversed {
-        answer: Traversal::Dropped,
+    Placed {
+        answer: Placement::Dropped,
         word: [0u8; WORD_BYTES],
     }
 }
 
 // One traversal of the group, with phase modulus m: it stops at the first fixing index with a numerator other than 0, and else gives the least
-// word.
+// word, the index that leads back from it and the orbit size.
 pub fn canonicalize_with_stabilizer(
     targets: &[u32],
     orders: &[u32],
@@ -87,14 +76,14 @@ pub fn canonicalize_with_stabilizer(
     m: usize,
     modes: &[i32],
     word: &[u8],
-) -> Traversed
+) -> Placed
     requires { ⌜ Tables generators sites (now targets) (now orders) ⌝ }
     requires { ⌜ order ≡ orderOf (generatorsIn generators sites (now targets) (now orders)) ⌝ }
     requires { ⌜ m ≡ modulusOf (generatorsIn generators sites (now targets) (now orders)) ⌝ }
     requires { ⌜ length (now modes) ≡ generators ⌝ }
     requires { ⌜ AcceptedWord sites (now word) ⌝ }
-    ensures answer { λ r. ⌜ r .answer ≡ traversal (generatorsIn generators sites (now (targets .entry)) (now (orders .entry))) (now (modes .entry)) (lettersIn sites (now (word .entry))) ⌝ }
-    ensures word { λ r. ⌜ r .word ≡ placementWord (generatorsIn generators sites (now (targets .entry)) (now (orders .entry))) (now (modes .entry)) (lettersIn sites (now (word .entry))) ⌝ }
+    ensures answer { λ r. ⌜ r .answer ≡ placementOf (decision (generatorsIn generators sites (now (targets .entry)) (now (orders .entry))) (now (modes .entry)) (lettersIn sites (now (word .entry)))) ⌝ }
+    ensures word { λ r. ⌜ r .word ≡ rowWord (decision (generatorsIn generators sites (now (targets .entry)) (now (orders .entry))) (now (modes .entry)) (lettersIn sites (now (word .entry)))) ⌝ }
 {
     let mut here = [0u8; WORD_BYTES];
     elements::walk::copy(word, &mut here);
@@ -113,8 +102,9 @@ pub fn canonicalize_with_stabilizer(
         elements::walk::advance(targets, orders, generators, sites, i, &mut here);
         i += 1;
     }
-    Traversed {
-        answer: Traversal::Kept(index, fixing),
+    let back = elements::index::invert(targets, orders, generators, sites, index);
+    Placed {
+        answer: Placement::Kept(back, order / fixing),
         word: best,
     }
 }

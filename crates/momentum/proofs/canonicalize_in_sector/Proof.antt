@@ -7,7 +7,6 @@ use borrow.Author.Needs.{needs}
 use Rattle.outcome.specs.Outcome.{onAnswer, orElse}
 use Rattle.pauli_word.proofs.Planes.{bytes-of}
 use Rattle.group.specs.Calls.{noWord}
-use Rattle.group.specs.Parts.{outcomeOfVerdict}
 use Rattle.group.proofs.CallLaws.{refusal-stays, refusal-else, call-group, call-sites, call-word}
 use Rattle.momentum.specs.Calls.{sectorOutcome, outcomeOfSector, sizeOf, rowWord, rowCounter}
 use Rattle.momentum.proofs.Outcomes.{sector-refused}
@@ -31,7 +30,7 @@ sector-of-requires c κs =
     let a = c .before .before .before .before .before .before .args in
     let bytes = now (a .word) in
     let pass = sym (c .before .before .before .word-call-checked .ensures) ∙ ap outcomeOfVerdict (c .before .enum-told .given .1) in (
-      call-group (a .group) (a .n) bytes pass,
+      call-group (a .group) (a .n) bytes pass (search needs) (search needs),
       call-word (a .group) (a .n) bytes pass (bytes-of bytes (λ i. c .before .before .before .before .before .shared-slice-known .given i .fits)),
     )
 
@@ -47,7 +46,7 @@ returns c =
       ap outcomeOfSector (c .no-row .ensures .0) ∙ sym (ap (onAnswer sizeOf) e),
       (
         c .no-row .ensures .1 ∙ sym (ap (orElse rowWord noWord) e),
-        sym (ap (orElse (rowCounter counter) counter) e),
+        sym (ap (orElse (rowCounter (generatorsOf (a .group)) counter) counter) e),
       ),
     )
 
@@ -65,7 +64,7 @@ returns-2 c =
     let same = ap (λ (k : ℕ). sectorOutcome g k bytes (now (a .modes)) (length counter)) (sym (call-sites g (a .n) bytes pass)) in
     let got = c .before .before .sector-of .ensures in (
       got .0 ∙ ap (onAnswer sizeOf) same,
-      (got .1 .0 ∙ ap (orElse rowWord noWord) same, got .1 .1 ∙ ap (orElse (rowCounter counter) counter) same),
+      (got .1 .0 ∙ ap (orElse rowWord noWord) same, got .1 .1 ∙ ap (orElse (rowCounter (generatorsOf (a .group)) counter) counter) same),
     )
 
 pub canonicalize-in-sector-spec : {M : Type 1} → statement M

@@ -7,7 +7,6 @@ use Rattle.outcome.specs.Outcome.{answer}
 use Rattle.action.specs.Sector.{numerator}
 use Rattle.group.specs.Value.{generatorsOf}
 use Rattle.group.specs.Calls.{valueChecks}
-use Rattle.group.specs.Parts.{outcomeOfVerdict}
 use Rattle.group.proofs.CallLaws.{call-refused, front-refused, value-accepted}
 use Rattle.momentum.specs.Calls.{modeCount, counterLength, numeratorOutcome}
 use Rattle.momentum.proofs.character_numerator.Statement.{statement}

@@ -8,7 +8,6 @@ use Rattle.outcome.specs.Outcome.{answer, onAnswer, orElse}
 use Rattle.action.specs.Index.{orderOf}
 use Rattle.group.specs.Value.{generatorsOf}
 use Rattle.group.specs.Calls.{done, itself, valueChecks, listLength}
-use Rattle.group.specs.Parts.{outcomeOfVerdict}
 use Rattle.group.proofs.CallLaws.{call-refused, front-refused, refusal-stays, refusal-else, value-accepted}
 use Rattle.momentum.specs.Calls.{modeCount, numerators, tableOutcome}
 use Rattle.momentum.proofs.character_table.Statement.{statement}

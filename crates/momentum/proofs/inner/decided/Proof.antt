@@ -1,4 +1,4 @@
--- `inner::decided` meets its contract: where the word stands decides (`sector-dropped`, `sector-kept`), and the digits fill the whole counter
+-- `inner::decided` meets its contract: the placement tells the decision (`placed-dropped`, `placed-row`), and the digits fill the whole counter
 -- (`overwritten`).
 use mathlib.Core.Path.{sym, ap, _∙_}
 use native.Mathlib.Omega.{arith}
@@ -13,13 +13,13 @@ use Rattle.group.specs.Calls.{noWord}
 use Rattle.group.proofs.Accepted.{accepted-tables}
 use Rattle.group.proofs.Outcomes.{overwritten}
 use Rattle.momentum.specs.Calls.{outcomeOfSector, sizeOf, rowWord, rowCounter}
-use Rattle.momentum.proofs.Outcomes.{sector-dropped, sector-kept}
+use Rattle.momentum.proofs.Outcomes.{sector-decision}
 use Rattle.momentum.proofs.inner.decided.Statement.{statement}
 use Rattle.momentum.proofs.inner.decided.Tie as tie
 
 -- the tables of an accepted group
 tables : (c : tie.Start) → let g = c .args .group in Tables (g .generators) (g .sites) (g .targets) (g .orders)
-tables c = accepted-tables (c .args .group) (c .pre .0) (search needs) (search needs)
+tables c = accepted-tables (c .args .group) (c .pre .0)
 
 placement-of-requires : tie.Need-placement-of-requires
 placement-of-requires c κs = search needs
@@ -33,18 +33,26 @@ enum-told c = search needs
 no-row-requires : tie.Need-no-row-requires
 no-row-requires c κs = search needs
 
+-- the outcome is the decision
+decides :
+    (c : tie.Start)
+    → let a = c .args in
+    (sectorOutcome (a .group) (a .group .sites) (now (a .word)) (now (a .modes)) (length (now (a .counter)))
+    ≡ answer (decision (generatorsOf (a .group)) (now (a .modes)) (lettersIn (a .group .sites) (now (a .word)))))
+decides c =
+    let a = c .args in
+    sector-decision (a .group) (c .pre .0) (now (a .word)) (c .pre .1 .0) (now (a .modes)) (length (now (a .counter))) (c .pre .1 .1 .0) (c .pre .1 .1 .1)
+
 returns : tie.Need-returns
 returns c =
     let t = c .before in
     let s = t .before .before .before .before .before in
     let a = s .args in
     let counter = now (a .counter) in
-    let found = sym (t .before .before .placement-of .ensures .0) ∙ t .enum-told .given .1 in
-    let e =
-    sector-dropped (a .group) (s .pre .0) (now (a .word)) (s .pre .1 .0) (now (a .modes)) (length counter) (s .pre .1 .1 .0) (s .pre .1 .1 .1) found
-    in (
+    let gs = generatorsOf (a .group) in
+    let e = decides s ∙ ap answer (placed-dropped _ (sym (t .before .before .placement-of .ensures .0) ∙ t .enum-told .given .1)) in (
       ap outcomeOfSector (c .no-row .ensures .0) ∙ sym (ap (onAnswer sizeOf) e),
-      (c .no-row .ensures .1 ∙ sym (ap (orElse rowWord noWord) e), sym (ap (orElse (rowCounter counter) counter) e)),
+      (c .no-row .ensures .1 ∙ sym (ap (orElse rowWord noWord) e), sym (ap (orElse (rowCounter gs counter) counter) e)),
     )
 
 slice-aggregate-fill-counter : tie.Need-slice-aggregate-fill-counter
@@ -68,17 +76,17 @@ returns-2 c =
     let s = t .before .before .before .before .before in
     let a = s .args in
     let counter = now (a .counter) in
+    let gs = generatorsOf (a .group) in
     let place = t .before .before .placement-of in
-    let found = sym (place .ensures .0) ∙ t .answer .given .1 in
-    let (e, word) =
-    sector-kept (a .group) (s .pre .0) (now (a .word)) (s .pre .1 .0) (now (a .modes)) (length counter) (s .pre .1 .1 .0) (s .pre .1 .1 .1) found
-    in (
-      sym (ap (onAnswer sizeOf) e),
+    let (r, same, index, size) = placed-row _ (sym (place .ensures .0) ∙ t .answer .given .1) in
+    let e = decides s ∙ ap answer same in (
+      ap (λ (k : ℕ). answer (kept k)) (sym size) ∙ sym (ap (onAnswer sizeOf) e),
       (
-        place .ensures .1 ∙ word ∙ sym (ap (orElse rowWord noWord) e),
+        place .ensures .1 ∙ sym (ap (orElse rowWord noWord) (decides s)),
         c .before .before .before .fill-counter .ensures
-            ∙ overwritten (digits (generatorsOf (a .group)) (t .answer .given .0 .0)) counter (a .group .generators) (s .pre .1 .1 .1)
-            ∙ sym (ap (orElse (rowCounter counter) counter) e),
+            ∙ overwritten (digits gs (t .answer .given .0 .0)) counter (a .group .generators) (s .pre .1 .1 .1)
+            ∙ ap (digits gs) (sym index)
+            ∙ sym (ap (orElse (rowCounter gs counter) counter) e),
       ),
     )
 

@@ -21,7 +21,7 @@ returns c =
     let counter = now (a .counter) in
     let e = sector-modes (a .group) (s .pre .0) (now (a .word)) (s .pre .1) (now (a .modes)) (length counter) (c .before .if1 .taken) in (
       ap outcomeOfSector (c .no-row .ensures .0) ∙ sym (ap (onAnswer sizeOf) e),
-      (c .no-row .ensures .1 ∙ sym (ap (orElse rowWord noWord) e), sym (ap (orElse (rowCounter counter) counter) e)),
+      (c .no-row .ensures .1 ∙ sym (ap (orElse rowWord noWord) e), sym (ap (orElse (rowCounter (generatorsOf (a .group)) counter) counter) e)),
     )
 
 no-row-requires-2 : tie.Need-no-row-requires-2
@@ -35,7 +35,7 @@ returns-2 c =
     let modes = c .before .before .if1 .left in
     let e = sector-length (a .group) (s .pre .0) (now (a .word)) (s .pre .1) (now (a .modes)) (length counter) modes (c .before .if2 .taken) in (
       ap outcomeOfSector (c .no-row2 .ensures .0) ∙ sym (ap (onAnswer sizeOf) e),
-      (c .no-row2 .ensures .1 ∙ sym (ap (orElse rowWord noWord) e), sym (ap (orElse (rowCounter counter) counter) e)),
+      (c .no-row2 .ensures .1 ∙ sym (ap (orElse rowWord noWord) e), sym (ap (orElse (rowCounter (generatorsOf (a .group)) counter) counter) e)),
     )
 
 decided-requires : tie.Need-decided-requires

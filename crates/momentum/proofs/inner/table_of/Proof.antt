@@ -14,7 +14,7 @@ use Rattle.momentum.proofs.inner.table_of.Tie as tie
 
 -- the tables of an accepted group
 tables : (c : tie.Start) → let g = c .args .group in Tables (g .generators) (g .sites) (g .targets) (g .orders)
-tables c = accepted-tables (c .args .group) (c .pre) (search needs) (search needs)
+tables c = accepted-tables (c .args .group) (c .pre)
 
 returns : tie.Need-returns
 returns c =

@@ -14,7 +14,7 @@ use Rattle.action.specs.Orbit.{reach, firstAt}
 use Rattle.elements.specs.Tables.{generatorsIn}
 use Rattle.elements.proofs.Orbits.{entries, walk-start, walk-accepted, walk-next}
 use Rattle.elements.proofs.Leads.{lead, lead-start, place-start, lead-accepted, lead-bytes, lead-place, lead-end, place-end}
-use Rattle.momentum.proofs.Traversals.{Passed, passed-start, passed-few, passed-moves, passed-fixes, traversal-kept, word-kept, traversal-broken, word-broken}
+use Rattle.momentum.proofs.Traversals.{Passed, passed-start, passed-few, passed-moves, passed-fixes, fixing-some, placed-kept, word-kept, placed-broken, word-broken}
 use Rattle.momentum.proofs.stabilizer.canonicalize_with_stabilizer.Statement.{statement}
 use Rattle.momentum.proofs.stabilizer.canonicalize_with_stabilizer.Tie as tie
 
@@ -101,7 +101,7 @@ returns c =
     let w = lettersIn (s .args .sites) (now (s .args .word)) in
     let inside : l .i < orderOf gs = omega (arith, s .pre .1 .0, c .before .before .before .before .before .loop-test .taken) in
     let breaks = sym (c .before .before .before .tested .ensures) ∙ c .before .enum-told .given .1 in
-    (c .dropped .ensures .0 ∙ traversal-broken gs ks w (l .i) inside breaks, c .dropped .ensures .1 ∙ word-broken gs ks w (l .i) inside breaks)
+    (c .dropped .ensures .0 ∙ placed-broken gs ks w (l .i) inside breaks, c .dropped .ensures .1 ∙ word-broken gs ks w (l .i) inside breaks)
 
 enum-told-2 : tie.Need-enum-told-2 Inv-loop μ-loop
 enum-told-2 c = search needs
@@ -165,15 +165,31 @@ loop-again c =
           (λ v. passed-moves gs ks w (l .i) (l .inv .4) (test ∙ v .1 .given .1) (v .2)) came,
     )
 
+-- every index was tested
+all-tested :
+    (c : tie.Out-loop Inv-loop μ-loop)
+    → let s = c .before .before .before .before .before .before .before .before .before .before .before in
+    (c .before .loop .i ≡ orderOf (generatorsIn (s .args .generators) (s .args .sites) (now (s .args .targets)) (now (s .args .orders))))
+all-tested c =
+    let s = c .before .before .before .before .before .before .before .before .before .before .before in
+    omega (arith, s .pre .1 .0, c .loop-test .left, c .before .loop .inv .0)
+
+invert-requires : tie.Need-invert-requires Inv-loop μ-loop
+invert-requires c κs = c .before .before .before .before .before .before .before .before .before .before .before .pre .0
+
+div-result : tie.Need-div-t0 Inv-loop μ-loop
+div-result c = ?div
+
 returns-2 : tie.Need-returns-2 Inv-loop μ-loop
 returns-2 c =
-    let s = c .before .before .before .before .before .before .before .before .before .before .before in
-    let l = c .before .loop in
+    let o = c .before in
+    let s = o .before .before .before .before .before .before .before .before .before .before .before in
+    let l = o .before .loop in
     let ks = now (s .args .modes) in
     let gs = generatorsIn (s .args .generators) (s .args .sites) (now (s .args .targets)) (now (s .args .orders)) in
     let w = lettersIn (s .args .sites) (now (s .args .word)) in
-    let all : l .i ≡ orderOf gs = omega (arith, s .pre .1 .0, c .loop-test .left, l .inv .0) in (
-      traversal-kept gs ks w (l .i) (l .inv .4) all (l .inv .3 ∙ place-end gs w (l .i) all),
+    let all = all-tested o in (
+      placed-kept gs ks w (l .i) (l .inv .4) all (l .inv .3 ∙ place-end gs w (l .i) all) (c .invert .ensures) (s .pre .1 .0),
       l .inv .2 ∙ ap bytesOf (lead-end gs w (l .i) all) ∙ word-kept gs ks w (l .i) (l .inv .4) all,
     )
 
@@ -204,4 +220,6 @@ canonicalize-with-stabilizer-spec =
     add-i
     loop-less
     loop-again
+    invert-requires
+    div-result
     returns-2)

@@ -13,8 +13,8 @@ use Rattle.momentum.proofs.Traversals.{test-moves, test-fixes, test-bre
 use Rattle.momentum.proofs.stabilizer.tested.Statement.{statement}
 use Rattle.momentum.proofs.stabilizer.tested.Tie as tie
 
-compare-requires : tie.Need-compare-requires
-compare-requires c κs = search needs
+compare-bytes-requires : tie.Need-compare-bytes-requires
+compare-bytes-requires c κs = search needs
 
 enum-told : tie.Need-enum-told
 enum-told c = search needs
@@ -25,7 +25,7 @@ returns c =
     let a = s .args in
     test-moves (generatorsIn (a .generators) (a .sites) (now (a .targets)) (now (a .orders))) (now (a .modes))
     (lettersIn (a .sites) (now (a .word))) (a .index)
-    (bytes-moved (s .pre .0) (s .pre .1 .1 .1 .0) (a .index) (s .pre .1 .1 .1 .1) (c .before .compare .ensures)
+    (bytes-moved (s .pre .0) (s .pre .1 .1 .1 .0) (a .index) (s .pre .1 .1 .1 .1) (c .before .compare-bytes .ensures)
     (λ e. ⊎-elim (λ z. omega arith) (λ z. omega arith) (rw e at (c .match .keys2))))
 
 trivial-requires : tie.Need-trivial-requires
@@ -39,7 +39,7 @@ fixed :
     (fixes gs (lettersIn (a .sites) (now (a .word))) (a .index) ≡ true)
 fixed c =
     let s = c .before .before .before .before .before .before .before in
-    bytes-fixed (s .pre .0) (s .pre .1 .1 .1 .0) (s .args .index) (s .pre .1 .1 .1 .1) (c .before .before .compare .ensures) (c .enum-told .given .1)
+    bytes-fixed (s .pre .0) (s .pre .1 .1 .1 .0) (s .args .index) (s .pre .1 .1 .1 .1) (c .before .before .compare-bytes .ensures) (c .enum-told .given .1)
 
 returns-2 : tie.Need-returns-2
 returns-2 c =
@@ -55,4 +55,4 @@ returns-3 c =
 
 pub tested-spec : {M : Type 1} → statement M
 tested-spec =
-    tie.close (tie.spec compare-requires enum-told returns trivial-requires returns-2 returns-3)
+    tie.close (tie.spec compare-bytes-requires enum-told returns trivial-requires returns-2 returns-3)
