@@ -5,11 +5,13 @@ use native.Mathlib.Nat.{le-antisymm, eq-or-lt-of-le, not-suc-le-zero}
 use native.Mathlib.Omega.{arith}
 use mathlib.Core.Path.{_≡_, refl, sym, _∙_, ap, ap₂, subst}
 use mathlib.Core.Logic.{_⊎_, inl, inr, ⊎-elim}
-use mathlib.Core.Bool.{Bool, true, false, cond, and-eq-true-iff}
+use mathlib.Core.Bool.{Bool, true, false, cond, false≢true, and-eq-true-iff}
 use mathlib.Core.List.{List, [], _∷_, _++_, map, head-eq-of-cons-eq, tail-eq-of-cons-eq}
+use lib.Dec.{eqb}
 use lib.ListN.{length, length-map}
+use borrow.Author.Tests.{eqb-true, eq-eqb}
 use Rattle.action.specs.Arithmetic.{product}
-use Rattle.action.specs.Lists.{from, below, Member, select, count, every, total, prefixed, choices, NoRepeats}
+use Rattle.action.specs.Lists.{from, below, sameNumbers, Member, select, count, every, total, prefixed, choices, NoRepeats}
 
 -- tests that hold together are the same
 pub bool-ext : (a b : Bool) → (a ≡ true → b ≡ true) → (b ≡ true → a ≡ true) → a ≡ b
@@ -55,6 +57,22 @@ noRepeats-below n = noRepeats-from n 0
 pub length-below : (n : ℕ) → length (below n) ≡ n
 unfolding below
 length-below n = length-from n 0
+
+-- lists of numbers that are the same
+
+pub sameNumbers-eq : (xs ys : List ℕ) → sameNumbers xs ys ≡ true → xs ≡ ys
+unfolding sameNumbers
+sameNumbers-eq [] [] h = refl
+sameNumbers-eq [] (y ∷ ys) h = absurd (false≢true h)
+sameNumbers-eq (x ∷ xs) [] h = absurd (false≢true h)
+sameNumbers-eq (x ∷ xs) (y ∷ ys) h =
+    let p = and-eq-true-iff (eqb x y) (sameNumbers xs ys) .0 h in
+    ap₂ _∷_ (eqb-true x y (p .0)) (sameNumbers-eq xs ys (p .1))
+
+pub sameNumbers-refl : (xs : List ℕ) → sameNumbers xs xs ≡ true
+unfolding sameNumbers
+sameNumbers-refl [] = refl
+sameNumbers-refl (x ∷ xs) = and-eq-true-iff (eqb x x) (sameNumbers xs xs) .1 (eq-eqb x x refl, sameNumbers-refl xs)
 
 module _ {A : Type 0} where
   pub member-append-left : (xs ys : List A) (a : A) → Member a xs → Member a (xs ++ ys)

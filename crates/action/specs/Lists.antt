@@ -2,8 +2,9 @@
 use Prim.Native.Nat.{ℕ, zero, suc, _+_}
 use mathlib.Core.Path.{_≡_}
 use mathlib.Core.Logic.{_⊎_}
-use mathlib.Core.Bool.{Bool, true, _&&_, cond}
+use mathlib.Core.Bool.{Bool, true, false, _&&_, cond}
 use mathlib.Core.List.{List, [], _∷_, _++_, map}
+use lib.Dec.{eqb}
 
 -- the n numbers from a on
 unfoldable pub from : ℕ → ℕ → List ℕ
@@ -14,6 +15,13 @@ from a (suc n) = a ∷ from (suc a) n
 unfoldable pub below : ℕ → List ℕ
 unfolding from
 below n = from 0 n
+
+-- whether two lists of numbers are the same
+unfoldable pub sameNumbers : List ℕ → List ℕ → Bool
+sameNumbers [] [] = true
+sameNumbers [] (b ∷ bs) = false
+sameNumbers (a ∷ xs) [] = false
+sameNumbers (a ∷ xs) (b ∷ bs) = eqb a b && sameNumbers xs bs
 
 -- a is a member of a list
 abbrev pub Member : {A : Type 0} → A → List A → Type 0

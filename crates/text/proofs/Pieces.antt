@@ -1,7 +1,7 @@
 -- Texts that are the same, the first piece of a text, all its pieces, and the fields of a line.
 -- What carries it: a text is its first piece alone, or its first piece, a byte that parts, and the pieces of the rest (`pieces-last`, `pieces-next`).
 use Prim.Native.Nat.{ℕ, suc, _+_, _-_, _≤_, _<_}
-use mathlib.Core.Path.{_≡_, refl, sym, ap, ap₂, subst, _∙_}
+use mathlib.Core.Path.{_≡_, refl, sym, ap, subst, _∙_}
 use mathlib.Core.Logic.{_⊎_, inl, inr}
 use mathlib.Core.Bool.{Bool, true, false, _&&_, not, cond, false≢true, and-eq-true-iff}
 use mathlib.Core.List.{List, [], _∷_}
@@ -13,8 +13,9 @@ use lib.ListN.{length, getD, take, drop, length-drop, drop-of-length-le}
 use lib.Seq.{drop-cons, drop-drop, take-all, length-take-le}
 use borrow.Author.Tests.{eqb-true, eqb-false, eq-eqb, ne-eqb, not-true}
 use Rattle.pauli_word.proofs.Words.{rest-part}
-use Rattle.action.specs.Lists.{every}
-use Rattle.text.specs.Text.{space, sameText, before, extended, pieces}
+use Rattle.action.specs.Lists.{sameNumbers, every}
+use Rattle.action.proofs.Lists.{sameNumbers-eq}
+use Rattle.text.specs.Text.{space, before, extended, pieces}
 use Rattle.text.specs.Parts.{fourFields, fieldLength, fieldFrom, fieldsRead}
 use Rattle.text.specs.declared.read.Field.{Field}
 use Rattle.text.specs.declared.read.Field.the-variants as Field
@@ -23,44 +24,27 @@ use Rattle.text.specs.declared.read.Fields.the-variants as Fields
 
 -- ---- texts that are the same
 
-pub same-equal : (xs ys : List ℕ) → sameText xs ys ≡ true → xs ≡ ys
-unfolding sameText
-same-equal [] [] h = refl
-same-equal [] (y ∷ ys) h = absurd (false≢true h)
-same-equal (x ∷ xs) [] h = absurd (false≢true h)
-same-equal (x ∷ xs) (y ∷ ys) h =
-    let p = and-eq-true-iff (eqb x y) (sameText xs ys) .0 h in
-    ap₂ _∷_ (eqb-true x y (p .0)) (same-equal xs ys (p .1))
-
-same-self : (xs : List ℕ) → sameText xs xs ≡ true
-unfolding sameText
-same-self [] = refl
-same-self (x ∷ xs) = and-eq-true-iff (eqb x x) (sameText xs xs) .1 (eq-eqb x x refl, same-self xs)
-
-pub equal-same : (xs ys : List ℕ) → xs ≡ ys → sameText xs ys ≡ true
-equal-same xs ys e = subst (λ (zs : List ℕ). sameText xs zs ≡ true) e (same-self xs)
-
-pub lengths-differ : (xs ys : List ℕ) → (length xs ≡ length ys → ⊥) → sameText xs ys ≡ false
-lengths-differ xs ys h = go (sameText xs ys) refl
+pub lengths-differ : (xs ys : List ℕ) → (length xs ≡ length ys → ⊥) → sameNumbers xs ys ≡ false
+lengths-differ xs ys h = go (sameNumbers xs ys) refl
   where
-    go : (t : Bool) → sameText xs ys ≡ t → sameText xs ys ≡ false
-    go true e = absurd (h (ap length (same-equal xs ys e)))
+    go : (t : Bool) → sameNumbers xs ys ≡ t → sameNumbers xs ys ≡ false
+    go true e = absurd (h (ap length (sameNumbers-eq xs ys e)))
     go false e = e
 
 -- two texts are compared up to i
 module _ (xs ys : List ℕ) (i : ℕ) (h : i < length xs) (l : length xs ≡ length ys) where
-  at-i : sameText (drop i xs) (drop i ys) ≡ (eqb (getD xs i 0) (getD ys i 0) && sameText (drop (i + 1) xs) (drop (i + 1) ys))
-  unfolding sameText
+  at-i : sameNumbers (drop i xs) (drop i ys) ≡ (eqb (getD xs i 0) (getD ys i 0) && sameNumbers (drop (i + 1) xs) (drop (i + 1) ys))
+  unfolding sameNumbers
   at-i = let k : i < length ys = omega arith in simp (drop-cons xs i 0 h, drop-cons ys i 0 k, add-one)
 
-  pub same-differs : (getD xs i 0 ≡ getD ys i 0 → ⊥) → sameText (drop i xs) (drop i ys) ≡ false
+  pub same-differs : (getD xs i 0 ≡ getD ys i 0 → ⊥) → sameNumbers (drop i xs) (drop i ys) ≡ false
   same-differs n = at-i ∙ simp (ne-eqb (getD xs i 0) (getD ys i 0) n)
 
-  pub same-next : getD xs i 0 ≡ getD ys i 0 → sameText (drop i xs) (drop i ys) ≡ sameText (drop (i + 1) xs) (drop (i + 1) ys)
+  pub same-next : getD xs i 0 ≡ getD ys i 0 → sameNumbers (drop i xs) (drop i ys) ≡ sameNumbers (drop (i + 1) xs) (drop (i + 1) ys)
   same-next e = at-i ∙ simp (eq-eqb (getD xs i 0) (getD ys i 0) e)
 
-pub same-end : (xs ys : List ℕ) (i : ℕ) → length xs ≤ i → length xs ≡ length ys → sameText (drop i xs) (drop i ys) ≡ true
-unfolding sameText
+pub same-end : (xs ys : List ℕ) (i : ℕ) → length xs ≤ i → length xs ≡ length ys → sameNumbers (drop i xs) (drop i ys) ≡ true
+unfolding sameNumbers
 same-end xs ys i h l = let k : length ys ≤ i = omega arith in simp (drop-of-length-le xs h, drop-of-length-le ys k)
 
 -- ---- the bytes before the first c

@@ -1,6 +1,6 @@
 -- Texts as lists of bytes: their pieces, and decimal numbers read and written.
 use Prim.Native.Nat.{ℕ, zero, suc, _+_, _-_, _*_, _/_, _%_}
-use mathlib.Core.Bool.{Bool, true, false, _&&_, not, cond}
+use mathlib.Core.Bool.{Bool, false, _&&_, not, cond}
 use mathlib.Core.List.{List, [], _∷_, _++_}
 use lib.Dec.{eqb, leb, ltb}
 use lib.IntN.{ℤ, pos, negsuc}
@@ -22,13 +22,6 @@ abbrev pub zeroDigit : ℕ
 zeroDigit = 48
 
 -- ---- pieces
-
--- whether two texts are the same
-unfoldable pub sameText : List ℕ → List ℕ → Bool
-sameText [] [] = true
-sameText [] (b ∷ bs) = false
-sameText (a ∷ xs) [] = false
-sameText (a ∷ xs) (b ∷ bs) = eqb a b && sameText xs bs
 
 -- the bytes before the first c, or all
 unfoldable pub before : ℕ → List ℕ → List ℕ

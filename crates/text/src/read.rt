@@ -2,8 +2,8 @@
 ghost use mathlib.Core.Path.{_≡_};
 ghost use Prim.Native.Nat.{_-_, _≤_, _<_, min};
 ghost use lib.ListN.{length, getD};
-ghost use Rattle.action.specs.Lists.{every};
-ghost use Rattle.text.specs.Text.{minus, sameText, before, isDigit, isNumber, numberOf};
+ghost use Rattle.action.specs.Lists.{sameNumbers, every};
+ghost use Rattle.text.specs.Text.{minus, before, isDigit, isNumber, numberOf};
 ghost use Rattle.text.specs.Parts.{cap, modeRead, fieldFrom, fieldsRead};
 
 // The largest value that is told apart.
@@ -47,7 +47,7 @@ pub fn find(text: &[u8], byte: u8) -> usize
 
 // Whether two texts are the same.
 pub fn same(a: &[u8], b: &[u8]) -> bool
-    ensures { λ r. ⌜ r ≡ sameText (now (a .entry)) (now (b .entry)) ⌝ }
+    ensures { λ r. ⌜ r ≡ sameNumbers (now (a .entry)) (now (b .entry)) ⌝ }
 {
     if a.len() != b.len() {
         return false;

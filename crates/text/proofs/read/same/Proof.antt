@@ -4,13 +4,13 @@ use mathlib.Core.Path.{_≡_, refl, sym, _∙_}
 use native.Mathlib.Omega.{arith}
 use denote.Ref.{now}
 use lib.ListN.{length, drop}
-use Rattle.text.specs.Text.{sameText}
+use Rattle.action.specs.Lists.{sameNumbers}
 use Rattle.text.proofs.Pieces.{lengths-differ, same-differs, same-next, same-end}
 use Rattle.text.proofs.read.same.Statement.{statement}
 use Rattle.text.proofs.read.same.Tie as tie
 
 abbrev Inv-loop : tie.InvT-loop
-Inv-loop a b i₀ i = (i ≤ length a) × (length a ≡ length b) × (sameText a b ≡ sameText (drop i a) (drop i b))
+Inv-loop a b i₀ i = (i ≤ length a) × (length a ≡ length b) × (sameNumbers a b ≡ sameNumbers (drop i a) (drop i b))
 
 abbrev μ-loop : tie.MeasureT-loop
 μ-loop a b i₀ i = length a - i
