@@ -11,10 +11,9 @@ use mathlib.Core.List.{List}
 use native.Mathlib.Omega.{arith}
 use lib.IntN.{ℤ, pos}
 use lib.ListN.{length, getD}
-use Rattle.pauli_word.specs.Limits.{planeLength}
 use Rattle.outcome.specs.Outcome.{answer}
 use Rattle.pauli_word.specs.Word.{Word}
-use Rattle.pauli_word.specs.Bytes.{decode, AcceptedWord}
+use Rattle.pauli_word.specs.Bytes.{AcceptedWord, lettersIn}
 use Rattle.pauli_word.proofs.Words.{decode-length}
 use Rattle.action.specs.Lists.{Member, NoRepeats, count}
 use Rattle.action.specs.Permutation.{Generator}
@@ -26,8 +25,10 @@ use Rattle.action.proofs.Index.{valid-positive}
 use Rattle.action.proofs.Theorems as Action
 use Rattle.group.specs.declared.Group.{Group}
 use Rattle.group.specs.Value.{GivenBy, generatorsOf}
-use Rattle.group.specs.Calls.{withIndexOutcome}
-use Rattle.group.proofs.Promises.{CanonicalAnswer, given-group, canonical-answer}
+use Rattle.orbit.specs.Calls.{withIndexOutcome}
+use Rattle.orbit.specs.Walked.{CanonicalAnswer}
+use Rattle.orbit.proofs.Promises.{canonical-answer}
+use Rattle.group.proofs.Promises.{given-group}
 use Rattle.momentum.specs.Calls.{numeratorOutcome, numerators, tableOutcome, kept, dropped, Row, decision, sectorOutcome}
 use Rattle.momentum.specs.Counts.{acceptedWords, isOwn, isKept, pairs}
 use Rattle.momentum.proofs.Pairs as Pairs
@@ -131,13 +132,11 @@ module _ (g : Group) where
           ↔ ((i : ℕ) × (i < orderOf gs) × (fixes gs (w bytes) i ≡ true) × (numerator gs ks (digits gs i) ≡ 0 → ⊥))
       dropped-exactly ks modes counter room = Kept.dropped-against g given bytes word ks modes (length counter) room
 
-      -- what goes with a kept word is the answer of canonicalize_with_index, its index by its digits, and the number of different words of the orbit,
-      -- which times the number of fixing indices is the group order
+      -- what goes with a kept word is the answer of canonicalize_with_index and the number of different words of the orbit, which times the number of
+      -- fixing indices is the group order
       pub kept-row :
           (ks : List ℤ) (counter : List ℕ) (r : Row) → sectorOutcome g n bytes ks (length counter) ≡ answer (kept r)
-          → (i : ℕ)
-          × (withIndexOutcome g n bytes ≡ answer (r .word, i))
-          × (r .counter ≡ digits gs i)
+          → (withIndexOutcome g n bytes ≡ answer (r .word, r .index))
           × (r .size ≡ length (orbit gs (w bytes)))
           × (r .size * length (fixing gs (w bytes)) ≡ orderOf gs)
       kept-row ks counter = Kept.kept-row g given bytes word ks (length counter)

@@ -1,10 +1,7 @@
 -- A group value that accepted generators give: it is accepted, and it holds as many valid generators as it says.
 use Prim.Native.Nat.{_≤_}
 use mathlib.Core.Path.{_≡_}
-use mathlib.Core.Bool.{false}
-use lib.Dec.{ltb}
 use lib.ListN.{length}
-use borrow.Author.Tests.{leb-true, le-ltb}
 use Rattle.pauli_word.specs.Limits.{maxSites}
 use Rattle.action.specs.Permutation.{Valid}
 use Rattle.action.specs.Index.{orderOf}
@@ -13,7 +10,7 @@ use Rattle.elements.proofs.Tables.{generators-length}
 use Rattle.group.specs.declared.Group.{Group}
 use Rattle.group.specs.Value.{GivenBy, generatorsOf, AcceptedGroup}
 use Rattle.group.proofs.Accepted.{accepted-tables}
-use Rattle.group.proofs.Given.{Long, made-accepted, held-valid}
+use Rattle.group.proofs.Given.{made-accepted, held-valid}
 
 module _ (g : Group) (given : GivenBy g) where
   pub given-accepted : AcceptedGroup g

@@ -13,8 +13,8 @@ use borrow.Author.Tests.{ne-eqb, eqb-false}
 use Rattle.pauli_word.specs.Limits.{planeLength}
 use Rattle.outcome.specs.Outcome.{answer}
 use Rattle.pauli_word.specs.Word.{Word}
-use Rattle.pauli_word.specs.Bytes.{decode, encode, AcceptedWord}
-use Rattle.pauli_word.proofs.Checks.{call-answers}
+use Rattle.pauli_word.specs.Bytes.{AcceptedWord, lettersIn, bytesOf}
+use Rattle.outcome.proofs.Outcomes.{call-answers, unless-answer}
 use Rattle.pauli_word.proofs.Words.{decode-length, encoded-accepted, encoded-decode}
 use Rattle.action.specs.Lists.{below, count}
 use Rattle.action.specs.Permutation.{Generator, Valid}
@@ -28,8 +28,8 @@ use Rattle.action.proofs.Canonical.{orbit-intro, orbit-elim, least-length}
 use Rattle.action.proofs.Theorems as Action
 use Rattle.group.specs.declared.Group.{Group}
 use Rattle.group.specs.Value.{GivenBy, generatorsOf}
-use Rattle.group.specs.Calls.{wordCallChecks, listLength, withIndexOutcome}
-use Rattle.group.proofs.Given.{unless-answer, word-passes}
+use Rattle.orbit.specs.Calls.{wordCallChecks, withIndexOutcome}
+use Rattle.group.specs.Calls.{listLength}
 use Rattle.momentum.specs.Calls.{modeCount, kept, dropped, Row, decision, sectorOutcome}
 use Rattle.momentum.specs.Counts.{acceptedWords, isOwn, isKept, pairs}
 use Rattle.momentum.proofs.Pairs.{count-pairs, count-both, total-select, every-false}
@@ -38,6 +38,7 @@ use Rattle.momentum.proofs.Modes.{modes-length}
 use Rattle.momentum.proofs.Traversals.{keeps-broken}
 use Rattle.momentum.proofs.Outcomes.{sector-decision}
 use Rattle.momentum.proofs.Given.{given-accepted, given-valid, given-length, given-sites}
+use Rattle.orbit.proofs.WordCalls.{word-call-passes}
 
 -- ---- the orbit
 
@@ -127,7 +128,7 @@ module _ (g : Group) where
       pub kept-row :
           (ks : List ℤ) (k : ℕ) (r : Row) → sectorOutcome g n bytes ks k ≡ answer (kept r)
           → (withIndexOutcome g n bytes ≡ answer (r .word, r .index))
-                    × (r .size ≡ length (orbit gs w))
+          × (r .size ≡ length (orbit gs w))
           × (r .size * length (fixing gs w) ≡ orderOf gs)
       unfolding sectorOutcome decision
       kept-row ks k r e =

@@ -13,7 +13,7 @@ use Rattle.action.specs.Lists.{below, Member, every}
 use Rattle.action.specs.Permutation.{Generator}
 use Rattle.action.specs.Index.{orderOf, digits}
 use Rattle.action.specs.Orbit.{fixes}
-use Rattle.action.specs.Sector.{reduced, reducedModes, reducedDigits, Modes, trivial, keeps}
+use Rattle.action.specs.Sector.{reducedModes, reducedDigits, Modes, trivial, keeps}
 use Rattle.action.specs.Count.{allModes}
 use Rattle.action.proofs.Index.{Positive, order-of-positive}
 use Rattle.action.proofs.Characters.{modes-reduced, numerator-reduced-modes}

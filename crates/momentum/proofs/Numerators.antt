@@ -6,9 +6,7 @@ use mathlib.Core.Path.{_≡_, sym, _∙_, ap}
 use mathlib.Core.List.{List, [], _∷_, _++_, map}
 use lib.IntN.{ℤ}
 use lib.ListN.{length, getD, length-map}
-use Rattle.pauli_word.specs.Limits.{planeLength}
 use Rattle.outcome.specs.Outcome.{answer}
-use Rattle.pauli_word.specs.Bytes.{decode}
 use Rattle.action.specs.Lists.{from, below, Member}
 use Rattle.action.specs.Permutation.{Generator}
 use Rattle.action.specs.Index.{orderOf, digits}
@@ -20,11 +18,12 @@ use Rattle.action.proofs.Theorems as Action
 use Rattle.group.specs.declared.Group.{Group}
 use Rattle.group.specs.Value.{GivenBy, generatorsOf}
 use Rattle.group.specs.Calls.{valueChecks, listLength}
-use Rattle.group.proofs.Given.{unless-answer}
+use Rattle.outcome.proofs.Outcomes.{unless-answer}
 use Rattle.momentum.specs.Calls.{modeCount, numeratorOutcome, numerators, tableOutcome, decision, sectorOutcome}
 use Rattle.momentum.proofs.Outcomes as Outcomes
 use Rattle.momentum.proofs.Given.{given-accepted, given-valid, given-length}
 use Rattle.momentum.proofs.Modes.{reducedModes-length, reducedDigits-length, reduced-listed, keeps-reduced}
+use Rattle.pauli_word.specs.Bytes.{lettersIn}
 
 -- a list of what each number below n is put to, by its places
 

@@ -1,29 +1,29 @@
 -- What the calls come to for an accepted group, with an accepted word where they take one; and a sector call after a refusal.
 -- What carries it: the checks before a call's own are passed, so that its own decide, then the numerators or the traversal.
 use Prim.Native.Nat.{ℕ}
-use mathlib.Core.Path.{_≡_, refl, _∙_}
-use mathlib.Core.Bool.{Bool, true, false, cond}
+use mathlib.Core.Path.{_≡_, _∙_}
+use mathlib.Core.Bool.{false}
 use mathlib.Core.List.{List, [], _∷_, _++_}
-use native.Mathlib.Omega.{arith}
-use lib.Dec.{ltb, eqb}
+use lib.Dec.{ltb}
 use lib.IntN.{ℤ}
 use lib.ListN.{length}
-use borrow.Author.Tests.{leb-true, le-ltb, eq-eqb, ne-eqb}
-use Rattle.pauli_word.specs.Limits.{maxSites, planeLength, wordLength}
-use Rattle.outcome.specs.Outcome.{refused, answer, verdict}
+use borrow.Author.Tests.{le-ltb, eq-eqb, ne-eqb}
+use Rattle.pauli_word.specs.Limits.{maxSites}
+use Rattle.outcome.specs.Outcome.{answer, verdict, refusalOf}
 use Rattle.pauli_word.specs.Word.{Word}
-use Rattle.pauli_word.specs.Bytes.{decode, encode, AcceptedWord}
+use Rattle.pauli_word.specs.Bytes.{AcceptedWord, lettersIn}
 use Rattle.action.specs.Permutation.{Generator}
-use Rattle.action.specs.Index.{orderOf, digits}
-use Rattle.action.specs.Orbit.{least, indexBack, orbitSize}
-use Rattle.action.specs.Sector.{numerator, keeps}
+use Rattle.action.specs.Index.{orderOf}
+use Rattle.action.specs.Sector.{numerator}
 use Rattle.group.specs.declared.Group.{Group}
 use Rattle.outcome.specs.declared.Refusal.{Refusal}
 use Rattle.outcome.specs.declared.Refusal.the-variants as Refusal
 use Rattle.group.specs.Value.{generatorsOf, AcceptedGroup}
-use Rattle.group.specs.Calls.{refusalOf, listLength, wordCallChecks}
-use Rattle.group.proofs.CallLaws.{call-refused, front-refused}
-use Rattle.momentum.specs.Calls.{modeCount, numeratorOutcome, numerators, tableOutcome, Decision, kept, dropped, Row, decision, sectorOutcome}
+use Rattle.orbit.specs.Calls.{wordCallChecks}
+use Rattle.group.specs.Calls.{listLength}
+use Rattle.outcome.proofs.Outcomes.{call-refused, front-refused, call-answers, verdict-append}
+use Rattle.momentum.specs.Calls.{modeCount, numeratorOutcome, numerators, tableOutcome, decision, sectorOutcome}
+use Rattle.orbit.proofs.WordCalls.{word-call-passes}
 
 module _ (g : Group) (ok : AcceptedGroup g) where
   few : ltb maxSites (g .sites) ≡ false

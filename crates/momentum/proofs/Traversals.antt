@@ -2,7 +2,7 @@
 -- What carries it: the numbers below i + 1 are those below i, and i (`below-next`), so that the test of index i takes what is known of the indices
 -- below i to those below i + 1 (`passed-moves`, `passed-fixes`), or shows that the modes drop the word (`placed-broken`).
 use Prim.Native.Nat.{ℕ, _+_, _≤_, _<_, _/_}
-use mathlib.Core.Path.{_≡_, refl, sym, ap, ap₂, _∙_}
+use mathlib.Core.Path.{_≡_, refl, sym, ap, _∙_}
 use mathlib.Core.Logic.{⊎-elim}
 use mathlib.Core.Bool.{Bool, true, false, _||_, not, cond, false≢true}
 use mathlib.Core.List.{List, [], _∷_, _++_}
@@ -13,7 +13,7 @@ use Rattle.pauli_word.specs.Limits.{planeLength}
 use Rattle.pauli_word.specs.declared.Ordering.{Ordering}
 use Rattle.pauli_word.specs.declared.Ordering.the-variants.{Same}
 use Rattle.pauli_word.specs.Word.{Word, same}
-use Rattle.pauli_word.specs.Bytes.{planeBits, decode, encode, AcceptedWord}
+use Rattle.pauli_word.specs.Bytes.{planeBits, AcceptedWord, lettersIn, bytesOf}
 use Rattle.pauli_word.specs.Calls.{orderOfBits}
 use Rattle.pauli_word.proofs.Words.{decode-length, encoded-decode}
 use Rattle.action.specs.Lists.{from, below, Member, count, every}
@@ -27,7 +27,7 @@ use Rattle.action.proofs.Stabilizer.{fixing-positive}
 use Rattle.elements.specs.Tables.{generatorsIn, Tables}
 use Rattle.elements.proofs.Orbits.{below-next, walk-accepted}
 use Rattle.elements.proofs.Leads.{same-taken, same-left}
-use Rattle.group.specs.Calls.{noWord}
+use Rattle.orbit.specs.Calls.{noWord}
 use Rattle.momentum.specs.declared.inner.Placement.{Placement}
 use Rattle.momentum.specs.declared.inner.Placement.the-variants as Placement
 use Rattle.momentum.specs.declared.stabilizer.Test.{Test}

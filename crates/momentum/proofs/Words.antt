@@ -1,22 +1,19 @@
 -- Accepted words as their bytes: the bytes tell the letters, and each accepted word is listed once.
 use Prim.Native.Nat.{ℕ, _*_, _≤_}
-use mathlib.Core.Path.{_≡_, refl, sym, _∙_, ap, ap₂}
+use mathlib.Core.Path.{_≡_, refl, sym, _∙_, ap}
 use mathlib.Core.Logic.{_↔_}
-use mathlib.Core.Bool.{true, _&&_, false≢true, and-eq-true-iff}
-use mathlib.Core.List.{List, [], _∷_}
-use lib.Dec.{eqb}
+use mathlib.Core.List.{List}
 use lib.ListN.{length}
-use borrow.Author.Tests.{eq-eqb, eqb-true}
 use Rattle.pauli_word.specs.Limits.{maxSites, planeLength}
 use Rattle.pauli_word.specs.Word.{Word, same}
-use Rattle.pauli_word.specs.Bytes.{decode, encode, AcceptedWord}
+use Rattle.pauli_word.specs.Bytes.{encode, AcceptedWord, lettersIn, bytesOf}
 use Rattle.pauli_word.proofs.Order.{same-refl, same-eq}
 use Rattle.pauli_word.proofs.Words.{decode-length, encode-decode, encoded-accepted, encoded-decode}
-use Rattle.action.specs.Lists.{Member, NoRepeats}
+use Rattle.action.specs.Lists.{Member, NoRepeats, sameNumbers}
 use Rattle.action.specs.Count.{allWords}
-use Rattle.action.proofs.Lists.{bool-ext, member-map, of-member-map, noRepeats-map}
+use Rattle.action.proofs.Lists.{bool-ext, member-map, of-member-map, noRepeats-map, sameNumbers-eq, sameNumbers-refl}
 use Rattle.action.proofs.Pairs.{words-all, words-long, words-noRepeats}
-use Rattle.momentum.specs.Counts.{acceptedWords, sameNumbers}
+use Rattle.momentum.specs.Counts.{acceptedWords}
 
 -- words of n letters in planes of m bytes
 module _ (m n : ℕ) (few : n ≤ 8 * m) (v w : Word) (longV : length v ≡ n) (longW : length w ≡ n) where

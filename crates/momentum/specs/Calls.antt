@@ -5,11 +5,9 @@ use mathlib.Core.List.{List, [], _∷_, _++_, map}
 use lib.Dec.{eqb}
 use lib.IntN.{ℤ}
 use lib.ListN.{length}
-use Rattle.pauli_word.specs.Limits.{planeLength}
 use Rattle.outcome.specs.declared.Refusal.the-variants as Refusal
 use Rattle.outcome.specs.Outcome.{Outcome, answer, refusalOf, Check, rule, unless}
 use Rattle.pauli_word.specs.Word.{Word}
-use Rattle.pauli_word.specs.Bytes.{decode, encode}
 use Rattle.action.specs.Lists.{below}
 use Rattle.action.specs.Permutation.{Generator}
 use Rattle.action.specs.Index.{orderOf, digits}
@@ -17,9 +15,11 @@ use Rattle.action.specs.Orbit.{least, indexBack, orbitSize}
 use Rattle.action.specs.Sector.{numerator, keeps}
 use Rattle.group.specs.declared.Group.{Group}
 use Rattle.group.specs.Value.{generatorsOf}
-use Rattle.group.specs.Calls.{refusalOf, valueChecks, wordCallChecks, listLength, noWord}
+use Rattle.orbit.specs.Calls.{wordCallChecks, noWord}
+use Rattle.group.specs.Calls.{valueChecks, listLength}
 use Rattle.momentum.specs.declared.Sector.{Sector}
 use Rattle.momentum.specs.declared.Sector.the-variants as Sector
+use Rattle.pauli_word.specs.Bytes.{lettersIn, bytesOf}
 
 -- 18: mode count is not the generator count
 abbrev pub modeCount : Group → List ℤ → Check

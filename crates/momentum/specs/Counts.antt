@@ -1,15 +1,14 @@
 -- What demand 3 counts, at what a caller hands over: mode lists, and accepted words as their bytes.
 use Prim.Native.Nat.{ℕ}
-use mathlib.Core.Bool.{Bool, true, false, _&&_}
+use mathlib.Core.Bool.{Bool, true, false}
 use mathlib.Core.List.{List, [], _∷_, _++_, map}
-use lib.Dec.{eqb}
-use Rattle.pauli_word.specs.Limits.{planeLength}
 use Rattle.outcome.specs.Outcome.{Outcome, refused, answer}
 use Rattle.pauli_word.specs.Word.{Word}
-use Rattle.pauli_word.specs.Bytes.{encode}
 use Rattle.action.specs.Count.{allWords}
-use Rattle.group.specs.Calls.{wordOf}
+use Rattle.orbit.specs.Calls.{wordOf}
 use Rattle.momentum.specs.Calls.{Decision, kept, dropped, Row}
+use Rattle.pauli_word.specs.Bytes.{bytesOf}
+use Rattle.action.specs.Lists.{sameNumbers}
 
 -- the accepted words of n sites, as their bytes
 unfoldable pub acceptedWords : ℕ → List (List ℕ)

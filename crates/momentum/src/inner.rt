@@ -1,18 +1,20 @@
 // What the calls come to once their first checks have passed. Whoever calls a function here owes its `requires`.
 ghost use mathlib.Core.Path.{_≡_};
 ghost use lib.ListN.{length};
-ghost use Rattle.pauli_word.specs.Limits.{planeLength};
-ghost use Rattle.outcome.specs.Outcome.{onAnswer, orElse};
-ghost use Rattle.pauli_word.specs.Bytes.{decode, AcceptedWord};
+ghost use Rattle.outcome.specs.Outcome.{onAnswer, orElse, done, itself, outcomeOfNumber, outcomeOfVerdict};
+ghost use Rattle.pauli_word.specs.Bytes.{AcceptedWord, lettersIn};
 ghost use Rattle.group.specs.Value.{generatorsOf, AcceptedGroup};
-ghost use Rattle.group.specs.Calls.{done, itself, noWord, outcomeOfNumber, outcomeOfVerdict};
-ghost use Rattle.momentum.specs.Calls.{numeratorOutcome, tableOutcome, sectorOutcome, outcomeOfSector, sizeOf, rowWord, rowCounter};
-ghost use Rattle.momentum.specs.Parts.{placement, placementWord};
+ghost use Rattle.orbit.specs.Calls.{noWord};
+ghost use Rattle.momentum.specs.Calls.{numeratorOutcome, tableOutcome, sectorOutcome, outcomeOfSector, sizeOf, rowWord, rowCounter, decision};
+ghost use Rattle.momentum.specs.Parts.{placementOf};
 use crate::InSector;
 use crate::Sector;
 use crate::phase;
 use crate::stabilizer;
 use group::Group;
+use outcome::Number;
+use outcome::Refusal;
+use outcome::Verdict;
 use pauli_word::WORD_BYTES;
 
 // 18, 20, then the numerator of a counter.

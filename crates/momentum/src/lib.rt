@@ -9,10 +9,14 @@ mod stabilizer;
 
 ghost use mathlib.Core.Path.{_≡_};
 ghost use lib.ListN.{length};
-ghost use Rattle.outcome.specs.Outcome.{onAnswer, orElse};
-ghost use Rattle.group.specs.Calls.{done, itself, noWord, outcomeOfNumber, outcomeOfVerdict};
+ghost use Rattle.outcome.specs.Outcome.{onAnswer, orElse, done, itself, outcomeOfNumber, outcomeOfVerdict};
+ghost use Rattle.orbit.specs.Calls.{noWord};
 ghost use Rattle.momentum.specs.Calls.{numeratorOutcome, tableOutcome, sectorOutcome, outcomeOfSector, sizeOf, rowWord, rowCounter};
+ghost use Rattle.group.specs.Value.{generatorsOf};
 use group::Group;
+use outcome::Number;
+use outcome::Refusal;
+use outcome::Verdict;
 use pauli_word::WORD_BYTES;
 
 // What modes make of a word.

@@ -2,14 +2,14 @@
 ghost use mathlib.Core.Path.{_≡_};
 ghost use Prim.Native.Nat.{_<_};
 ghost use lib.ListN.{length};
-ghost use Rattle.pauli_word.specs.Limits.{planeLength};
-ghost use Rattle.pauli_word.specs.Bytes.{decode, encode, AcceptedWord};
+ghost use Rattle.pauli_word.specs.Bytes.{AcceptedWord, lettersIn, bytesOf};
 ghost use Rattle.action.specs.Index.{orderOf};
 ghost use Rattle.action.specs.Orbit.{reach};
 ghost use Rattle.action.specs.Sector.{modulus as modulusOf};
 ghost use Rattle.elements.specs.Tables.{generatorsIn, Tables};
-ghost use Rattle.group.specs.Calls.{noWord};
-ghost use Rattle.momentum.specs.Parts.{testOf, traversal, placementWord};
+ghost use Rattle.orbit.specs.Calls.{noWord};
+ghost use Rattle.momentum.specs.Parts.{testOf, placementOf};
+ghost use Rattle.momentum.specs.Calls.{decision, rowWord, dropped};
 use crate::inner::Placed;
 use crate::inner::Placement;
 use crate::phase;

@@ -4,14 +4,15 @@ use mathlib.Core.Path.{sym, ap, _∙_}
 use lib.ListN.{length}
 use denote.Ref.{now}
 use borrow.Author.Needs.{needs}
-use Rattle.outcome.specs.Outcome.{onAnswer, orElse}
+use Rattle.outcome.specs.Outcome.{onAnswer, orElse, outcomeOfVerdict}
 use Rattle.pauli_word.proofs.Planes.{bytes-of}
-use Rattle.group.specs.Calls.{noWord}
-use Rattle.group.proofs.CallLaws.{refusal-stays, refusal-else, call-group, call-sites, call-word}
+use Rattle.orbit.specs.Calls.{noWord}
+use Rattle.orbit.proofs.WordCalls.{call-group, call-sites, call-word}
 use Rattle.momentum.specs.Calls.{sectorOutcome, outcomeOfSector, sizeOf, rowWord, rowCounter}
 use Rattle.momentum.proofs.Outcomes.{sector-refused}
 use Rattle.momentum.proofs.canonicalize_in_sector.Statement.{statement}
 use Rattle.momentum.proofs.canonicalize_in_sector.Tie as tie
+use Rattle.group.specs.Value.{generatorsOf}
 
 word-call-checked-requires : tie.Need-word-call-checked-requires
 word-call-checked-requires c κs = search needs

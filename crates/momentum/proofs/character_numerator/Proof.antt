@@ -3,11 +3,12 @@ use mathlib.Core.Path.{sym, ap, _∙_}
 use mathlib.Core.List.{[], _∷_, _++_}
 use denote.Ref.{now}
 use borrow.Author.Needs.{needs}
-use Rattle.outcome.specs.Outcome.{answer}
+use Rattle.outcome.specs.Outcome.{answer, outcomeOfVerdict}
 use Rattle.action.specs.Sector.{numerator}
 use Rattle.group.specs.Value.{generatorsOf}
 use Rattle.group.specs.Calls.{valueChecks}
-use Rattle.group.proofs.CallLaws.{call-refused, front-refused, value-accepted}
+use Rattle.outcome.proofs.Outcomes.{call-refused, front-refused}
+use Rattle.group.proofs.Accepted.{value-accepted}
 use Rattle.momentum.specs.Calls.{modeCount, counterLength, numeratorOutcome}
 use Rattle.momentum.proofs.character_numerator.Statement.{statement}
 use Rattle.momentum.proofs.character_numerator.Tie as tie

@@ -4,11 +4,12 @@ use mathlib.Core.List.{[], _∷_, _++_}
 use lib.ListN.{length}
 use denote.Ref.{now}
 use borrow.Author.Needs.{needs}
-use Rattle.outcome.specs.Outcome.{answer, onAnswer, orElse}
+use Rattle.outcome.specs.Outcome.{answer, onAnswer, orElse, done, itself, outcomeOfVerdict}
 use Rattle.action.specs.Index.{orderOf}
 use Rattle.group.specs.Value.{generatorsOf}
-use Rattle.group.specs.Calls.{done, itself, valueChecks, listLength}
-use Rattle.group.proofs.CallLaws.{call-refused, front-refused, refusal-stays, refusal-else, value-accepted}
+use Rattle.group.specs.Calls.{valueChecks, listLength}
+use Rattle.outcome.proofs.Outcomes.{call-refused, front-refused}
+use Rattle.group.proofs.Accepted.{value-accepted}
 use Rattle.momentum.specs.Calls.{modeCount, numerators, tableOutcome}
 use Rattle.momentum.proofs.character_table.Statement.{statement}
 use Rattle.momentum.proofs.character_table.Tie as tie

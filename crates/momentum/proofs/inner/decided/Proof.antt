@@ -1,21 +1,24 @@
 -- `inner::decided` meets its contract: the placement tells the decision (`placed-dropped`, `placed-row`), and the digits fill the whole counter
 -- (`overwritten`).
-use mathlib.Core.Path.{sym, ap, _∙_}
+use Prim.Native.Nat.{ℕ}
+use mathlib.Core.Path.{_≡_, sym, ap, _∙_}
 use native.Mathlib.Omega.{arith}
 use lib.ListN.{length}
 use denote.Ref.{now}
 use borrow.Author.Needs.{needs}
-use Rattle.outcome.specs.Outcome.{onAnswer, orElse}
+use Rattle.outcome.specs.Outcome.{answer, onAnswer, orElse}
 use Rattle.action.specs.Index.{digits}
 use Rattle.elements.specs.Tables.{Tables}
 use Rattle.group.specs.Value.{generatorsOf}
-use Rattle.group.specs.Calls.{noWord}
+use Rattle.orbit.specs.Calls.{noWord}
 use Rattle.group.proofs.Accepted.{accepted-tables}
 use Rattle.group.proofs.Outcomes.{overwritten}
-use Rattle.momentum.specs.Calls.{outcomeOfSector, sizeOf, rowWord, rowCounter}
+use Rattle.momentum.specs.Calls.{outcomeOfSector, sizeOf, rowWord, rowCounter, decision, kept, sectorOutcome}
 use Rattle.momentum.proofs.Outcomes.{sector-decision}
 use Rattle.momentum.proofs.inner.decided.Statement.{statement}
 use Rattle.momentum.proofs.inner.decided.Tie as tie
+use Rattle.pauli_word.specs.Bytes.{lettersIn}
+use Rattle.momentum.proofs.Traversals.{placed-dropped, placed-row}
 
 -- the tables of an accepted group
 tables : (c : tie.Start) → let g = c .args .group in Tables (g .generators) (g .sites) (g .targets) (g .orders)

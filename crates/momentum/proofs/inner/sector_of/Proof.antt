@@ -5,11 +5,12 @@ use lib.ListN.{length}
 use denote.Ref.{now}
 use borrow.Author.Needs.{needs}
 use Rattle.outcome.specs.Outcome.{onAnswer, orElse}
-use Rattle.group.specs.Calls.{noWord}
+use Rattle.orbit.specs.Calls.{noWord}
 use Rattle.momentum.specs.Calls.{outcomeOfSector, sizeOf, rowWord, rowCounter}
 use Rattle.momentum.proofs.Outcomes.{sector-modes, sector-length}
 use Rattle.momentum.proofs.inner.sector_of.Statement.{statement}
 use Rattle.momentum.proofs.inner.sector_of.Tie as tie
+use Rattle.group.specs.Value.{generatorsOf}
 
 no-row-requires : tie.Need-no-row-requires
 no-row-requires c κs = search needs

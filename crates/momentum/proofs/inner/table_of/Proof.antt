@@ -3,10 +3,9 @@ use mathlib.Core.Path.{sym, ap, _∙_}
 use lib.ListN.{length}
 use denote.Ref.{now}
 use borrow.Author.Needs.{needs}
-use Rattle.outcome.specs.Outcome.{onAnswer, orElse}
+use Rattle.outcome.specs.Outcome.{onAnswer, orElse, done, itself}
 use Rattle.elements.specs.Tables.{Tables}
 use Rattle.group.specs.Value.{generatorsOf}
-use Rattle.group.specs.Calls.{done, itself}
 use Rattle.group.proofs.Accepted.{accepted-tables}
 use Rattle.momentum.proofs.Outcomes.{table-modes, table-length, table-answer}
 use Rattle.momentum.proofs.inner.table_of.Statement.{statement}

@@ -6,17 +6,17 @@ use mathlib.Core.Logic.{⊎-elim}
 use native.Mathlib.Omega.{arith}
 use denote.Ref.{now}
 use borrow.Author.Needs.{needs}
-use Rattle.pauli_word.specs.Limits.{planeLength}
-use Rattle.pauli_word.specs.Bytes.{decode, encode, AcceptedWord}
+use Rattle.pauli_word.specs.Bytes.{AcceptedWord, lettersIn, bytesOf}
 use Rattle.pauli_word.proofs.Words.{decode-length}
 use Rattle.action.specs.Index.{orderOf}
 use Rattle.action.specs.Orbit.{reach, firstAt}
 use Rattle.elements.specs.Tables.{generatorsIn}
 use Rattle.elements.proofs.Orbits.{entries, walk-start, walk-accepted, walk-next}
 use Rattle.elements.proofs.Leads.{lead, lead-start, place-start, lead-accepted, lead-bytes, lead-place, lead-end, place-end}
-use Rattle.momentum.proofs.Traversals.{Passed, passed-start, passed-few, passed-moves, passed-fixes, fixing-some, placed-kept, word-kept, placed-broken, word-broken}
+use Rattle.momentum.proofs.Traversals.{Passed, passed-start, passed-few, passed-moves, passed-fixes, placed-kept, word-kept, placed-broken, word-broken, fixing-some}
 use Rattle.momentum.proofs.stabilizer.canonicalize_with_stabilizer.Statement.{statement}
 use Rattle.momentum.proofs.stabilizer.canonicalize_with_stabilizer.Tie as tie
+use Rattle.momentum.specs.Calls.{dropped}
 
 abbrev Inv-loop : tie.InvT-loop
 Inv-loop targets orders generators sites order modulus modes word here₀ best₀ index₀ fixing₀ i₀ here best index fixing i =
@@ -167,7 +167,7 @@ loop-again c =
 
 -- every index was tested
 all-tested :
-    (c : tie.Out-loop Inv-loop μ-loop)
+    (c : tie.After-loop Inv-loop μ-loop)
     → let s = c .before .before .before .before .before .before .before .before .before .before .before in
     (c .before .loop .i ≡ orderOf (generatorsIn (s .args .generators) (s .args .sites) (now (s .args .targets)) (now (s .args .orders))))
 all-tested c =
@@ -177,8 +177,14 @@ all-tested c =
 invert-requires : tie.Need-invert-requires Inv-loop μ-loop
 invert-requires c κs = c .before .before .before .before .before .before .before .before .before .before .before .pre .0
 
-div-result : tie.Need-div-t0 Inv-loop μ-loop
-div-result c = ?div
+div-t31 : tie.Need-div-t31 Inv-loop μ-loop
+div-t31 c =
+    let o = c .before in
+    let s = o .before .before .before .before .before .before .before .before .before .before .before in
+    let l = o .before .loop in
+    let gs = generatorsIn (s .args .generators) (s .args .sites) (now (s .args .targets)) (now (s .args .orders)) in
+    let w = lettersIn (s .args .sites) (now (s .args .word)) in
+    fixing-some gs (now (s .args .modes)) w (l .i) (l .inv .4) (all-tested o) (s .pre .0 .valid)
 
 returns-2 : tie.Need-returns-2 Inv-loop μ-loop
 returns-2 c =
@@ -221,5 +227,5 @@ canonicalize-with-stabilizer-spec =
     loop-less
     loop-again
     invert-requires
-    div-result
+    div-t31
     returns-2)

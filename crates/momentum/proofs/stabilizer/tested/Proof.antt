@@ -5,13 +5,12 @@ use mathlib.Core.Bool.{true}
 use native.Mathlib.Omega.{arith}
 use denote.Ref.{now}
 use borrow.Author.Needs.{needs}
-use Rattle.pauli_word.specs.Limits.{planeLength}
-use Rattle.pauli_word.specs.Bytes.{decode}
 use Rattle.action.specs.Orbit.{fixes}
 use Rattle.elements.specs.Tables.{generatorsIn}
 use Rattle.momentum.proofs.Traversals.{test-moves, test-fixes, test-breaks, bytes-fixed, bytes-moved}
 use Rattle.momentum.proofs.stabilizer.tested.Statement.{statement}
 use Rattle.momentum.proofs.stabilizer.tested.Tie as tie
+use Rattle.pauli_word.specs.Bytes.{lettersIn}
 
 compare-bytes-requires : tie.Need-compare-bytes-requires
 compare-bytes-requires c κs = search needs
