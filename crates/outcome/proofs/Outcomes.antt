@@ -2,11 +2,11 @@
 -- What carries it: a refusal is no answer, so that a pass breaks no rule, and a refusal is by a broken one.
 use Prim.Native.Nat.{ℕ}
 use mathlib.Core.Path.{_≡_, refl, sym, ap, _∙_}
-use mathlib.Core.Bool.{Bool, true, false, cond, true≢false}
+use mathlib.Core.Bool.{Bool, true, false, cond}
 use mathlib.Core.List.{List, [], _∷_, _++_}
 use native.Mathlib.Omega.{arith}
 use Rattle.outcome.specs.declared.Refusal.{Refusal}
-use Rattle.outcome.specs.Outcome.{Outcome, refused, answer, refusalOf, Check, verdict, alone, given, unless, onAnswer, done, itself, orElse}
+use Rattle.outcome.specs.Outcome.{Outcome, refused, answer, refusalOf, Check, verdict, alone, given, unless}
 
 -- ---- a refusal is no answer
 

@@ -16,67 +16,67 @@ pub data Outcome (A : Type 0) : Type 0 where
 -- ---- refusals: the one place where a rule has its number
 
 -- the number of the rule that a refusal is by
-abbrev pub numberOf : Refusal → ℕ
-numberOf Refusal.TooManySites = 1
-numberOf Refusal.ListEndsInside = 2
-numberOf Refusal.TooManyGenerators = 3
-numberOf (Refusal.LengthMismatch perms orders) = 4
-numberOf (Refusal.PermutationLength i len) = 5
-numberOf (Refusal.TargetOutOfRange i target) = 6
-numberOf (Refusal.DuplicateTarget i target) = 7
-numberOf (Refusal.ZeroOrder i) = 8
-numberOf (Refusal.PermutationOrderOverflow i) = 9
-numberOf (Refusal.OrderMismatch i declared exact) = 10
-numberOf (Refusal.NonCommuting left right) = 11
-numberOf Refusal.GroupOrderOverflow = 12
-numberOf Refusal.GroupOrderLimit = 13
-numberOf Refusal.InvalidValue = 14
-numberOf Refusal.WordLength = 15
-numberOf Refusal.OtherSites = 16
-numberOf Refusal.BitAboveSites = 17
-numberOf Refusal.ModeCount = 18
-numberOf Refusal.IndexRange = 19
-numberOf Refusal.CounterLength = 20
-numberOf Refusal.ListLength = 21
-numberOf Refusal.ZeroSide = 26
-numberOf Refusal.SidesTooLarge = 27
-numberOf Refusal.TooManyLetters = 28
-numberOf (Refusal.NotALetter at) = 29
-numberOf Refusal.SheetLength = 30
-numberOf Refusal.LineForm = 31
+abbrev pub ruleNumber : Refusal → ℕ
+ruleNumber Refusal.TooManySites = 1
+ruleNumber Refusal.ListEndsInside = 2
+ruleNumber Refusal.TooManyGenerators = 3
+ruleNumber (Refusal.LengthMismatch perms orders) = 4
+ruleNumber (Refusal.PermutationLength i len) = 5
+ruleNumber (Refusal.TargetOutOfRange i target) = 6
+ruleNumber (Refusal.DuplicateTarget i target) = 7
+ruleNumber (Refusal.ZeroOrder i) = 8
+ruleNumber (Refusal.PermutationOrderOverflow i) = 9
+ruleNumber (Refusal.OrderMismatch i declared exact) = 10
+ruleNumber (Refusal.NonCommuting left right) = 11
+ruleNumber Refusal.GroupOrderOverflow = 12
+ruleNumber Refusal.GroupOrderLimit = 13
+ruleNumber Refusal.InvalidValue = 14
+ruleNumber Refusal.WordLength = 15
+ruleNumber Refusal.OtherSites = 16
+ruleNumber Refusal.BitAboveSites = 17
+ruleNumber Refusal.ModeCount = 18
+ruleNumber Refusal.IndexRange = 19
+ruleNumber Refusal.CounterLength = 20
+ruleNumber Refusal.ListLength = 21
+ruleNumber Refusal.ZeroSide = 26
+ruleNumber Refusal.SidesTooLarge = 27
+ruleNumber Refusal.TooManyLetters = 28
+ruleNumber (Refusal.NotALetter at) = 29
+ruleNumber Refusal.SheetLength = 30
+ruleNumber Refusal.LineForm = 31
 
 -- the values that it names
-abbrev pub valuesOf : Refusal → List ℕ
-valuesOf Refusal.TooManySites = []
-valuesOf Refusal.ListEndsInside = []
-valuesOf Refusal.TooManyGenerators = []
-valuesOf (Refusal.LengthMismatch perms orders) = perms ∷ orders ∷ []
-valuesOf (Refusal.PermutationLength i len) = i ∷ len ∷ []
-valuesOf (Refusal.TargetOutOfRange i target) = i ∷ target ∷ []
-valuesOf (Refusal.DuplicateTarget i target) = i ∷ target ∷ []
-valuesOf (Refusal.ZeroOrder i) = i ∷ []
-valuesOf (Refusal.PermutationOrderOverflow i) = i ∷ []
-valuesOf (Refusal.OrderMismatch i declared exact) = i ∷ declared ∷ exact ∷ []
-valuesOf (Refusal.NonCommuting left right) = left ∷ right ∷ []
-valuesOf Refusal.GroupOrderOverflow = []
-valuesOf Refusal.GroupOrderLimit = []
-valuesOf Refusal.InvalidValue = []
-valuesOf Refusal.WordLength = []
-valuesOf Refusal.OtherSites = []
-valuesOf Refusal.BitAboveSites = []
-valuesOf Refusal.ModeCount = []
-valuesOf Refusal.IndexRange = []
-valuesOf Refusal.CounterLength = []
-valuesOf Refusal.ListLength = []
-valuesOf Refusal.ZeroSide = []
-valuesOf Refusal.SidesTooLarge = []
-valuesOf Refusal.TooManyLetters = []
-valuesOf (Refusal.NotALetter at) = at ∷ []
-valuesOf Refusal.SheetLength = []
-valuesOf Refusal.LineForm = []
+abbrev pub ruleValues : Refusal → List ℕ
+ruleValues Refusal.TooManySites = []
+ruleValues Refusal.ListEndsInside = []
+ruleValues Refusal.TooManyGenerators = []
+ruleValues (Refusal.LengthMismatch perms orders) = perms ∷ orders ∷ []
+ruleValues (Refusal.PermutationLength i len) = i ∷ len ∷ []
+ruleValues (Refusal.TargetOutOfRange i target) = i ∷ target ∷ []
+ruleValues (Refusal.DuplicateTarget i target) = i ∷ target ∷ []
+ruleValues (Refusal.ZeroOrder i) = i ∷ []
+ruleValues (Refusal.PermutationOrderOverflow i) = i ∷ []
+ruleValues (Refusal.OrderMismatch i declared exact) = i ∷ declared ∷ exact ∷ []
+ruleValues (Refusal.NonCommuting left right) = left ∷ right ∷ []
+ruleValues Refusal.GroupOrderOverflow = []
+ruleValues Refusal.GroupOrderLimit = []
+ruleValues Refusal.InvalidValue = []
+ruleValues Refusal.WordLength = []
+ruleValues Refusal.OtherSites = []
+ruleValues Refusal.BitAboveSites = []
+ruleValues Refusal.ModeCount = []
+ruleValues Refusal.IndexRange = []
+ruleValues Refusal.CounterLength = []
+ruleValues Refusal.ListLength = []
+ruleValues Refusal.ZeroSide = []
+ruleValues Refusal.SidesTooLarge = []
+ruleValues Refusal.TooManyLetters = []
+ruleValues (Refusal.NotALetter at) = at ∷ []
+ruleValues Refusal.SheetLength = []
+ruleValues Refusal.LineForm = []
 
 abbrev pub refusalOf : {A : Type 0} → Refusal → Outcome A
-refusalOf why = refused (numberOf why) (valuesOf why)
+refusalOf why = refused (ruleNumber why) (ruleValues why)
 
 -- ---- the answers that calls share
 
@@ -98,7 +98,7 @@ pub record Check : Type 0 where
 
 -- the rule that a refusal is by
 abbrev pub rule : Refusal → Bool → Check
-rule why b = record { number = numberOf why; values = valuesOf why; broken = b }
+rule why b = record { number = ruleNumber why; values = ruleValues why; broken = b }
 
 -- what checks come to, taken in order: the refusal by the first broken rule, or a pass
 abbrev pub verdict : List Check → Outcome (Unit {0})

@@ -1,7 +1,7 @@
 // What a call comes to: its answer, or a refusal by the number of the first rule broken. Each rule that a call can be refused by is a case of
 // `Refusal`, whatever the call, and `rule_number` gives its number.
 ghost use mathlib.Core.Path.{_≡_};
-ghost use Rattle.outcome.specs.Outcome.{numberOf};
+ghost use Rattle.outcome.specs.Outcome.{ruleNumber};
 
 // Why a call is refused, in the order of the rules' numbers.
 pub enum Refusal {
@@ -75,7 +75,7 @@ pub enum Number {
 
 // The number of the rule that a refusal is by.
 pub fn rule_number(why: Refusal) -> usize
-    ensures { λ r. ⌜ r ≡ numberOf why ⌝ }
+    ensures { λ r. ⌜ r ≡ ruleNumber why ⌝ }
 {
     match why {
         Refusal::TooManySites => 1,

@@ -5,13 +5,16 @@ use mathlib.Core.Bool.{Bool, true}
 use mathlib.Core.List.{List, [], _∷_, _++_}
 use Rattle.pauli_word.specs.Word.{weight}
 use Rattle.pauli_word.specs.Text.{lettersAlone}
-use Rattle.action.specs.Lists.{every}
+use Rattle.action.specs.Arithmetic.{product}
+use Rattle.action.specs.Lists.{sameNumbers, every}
+use Rattle.momentum.specs.Calls.{decision}
 use Rattle.action.specs.Lattice.{chain}
 use Rattle.action.specs.Orbit.{least, indexBack, orbitSize}
 use Rattle.action.specs.Sector.{keeps}
-use Rattle.text.specs.Text.{sameText, pieces, isNumber, numberOf, readOn, isMode, modeOf, decimal, digitsOf}
+use Rattle.text.specs.Text.{pieces, isNumber, numberOf, readOn, isMode, modeOf, decimal, digitsOf}
 use Rattle.text.specs.Parts.{fourFields}
-use Rattle.sheet_text.specs.Sheet.{sheet, sheetOutcome, lineChecks, secondChecks, thirdChecks, bodyChecks, sideChecks, firstPass, shapeOf, joined, row, lineRow, rows, table, generatorsFor, product}
+use Rattle.sheet_lines.specs.Lines.{lineChecks, secondChecks, thirdChecks, bodyChecks, sideChecks, firstPass, shapeOf, generatorsFor}
+use Rattle.sheet_text.specs.Sheet.{sheet, sheetOutcome, joined, row, lineRow, rows, table}
 
 abbrev pub example : List ℕ
 example =
@@ -21,6 +24,6 @@ abbrev pub exampleTable : List ℕ
 exampleTable =
     119 ∷ 111 ∷ 114 ∷ 100 ∷ 32 ∷ 114 ∷ 101 ∷ 112 ∷ 32 ∷ 105 ∷ 110 ∷ 100 ∷ 101 ∷ 120 ∷ 32 ∷ 111 ∷ 114 ∷ 98 ∷ 105 ∷ 116 ∷ 32 ∷ 119 ∷ 101 ∷ 105 ∷ 103 ∷ 104 ∷ 116 ∷ 32 ∷ 107 ∷ 101 ∷ 101 ∷ 112 ∷ 10 ∷ 88 ∷ 73 ∷ 73 ∷ 73 ∷ 32 ∷ 73 ∷ 73 ∷ 73 ∷ 88 ∷ 32 ∷ 49 ∷ 32 ∷ 52 ∷ 32 ∷ 49 ∷ 32 ∷ 49 ∷ 10 ∷ 88 ∷ 73 ∷ 88 ∷ 73 ∷ 32 ∷ 45 ∷ 32 ∷ 45 ∷ 32 ∷ 45 ∷ 32 ∷ 50 ∷ 32 ∷ 48 ∷ 10 ∷ 88 ∷ 73 ∷ 88 ∷ 73 ∷ 32 ∷ 73 ∷ 88 ∷ 73 ∷ 88 ∷ 32 ∷ 51 ∷ 32 ∷ 50 ∷ 32 ∷ 50 ∷ 32 ∷ 49 ∷ 10 ∷ []
 
-pub example-prints : sameText (sheet example) exampleTable ≡ true
-unfolding sameText sheet sheetOutcome lineChecks secondChecks thirdChecks bodyChecks sideChecks fourFields firstPass shapeOf pieces isNumber numberOf readOn isMode modeOf decimal digitsOf joined row lineRow rows table generatorsFor product every chain least indexBack orbitSize keeps weight lettersAlone
+pub example-prints : sameNumbers (sheet example) exampleTable ≡ true
+unfolding sameNumbers sheet sheetOutcome lineChecks secondChecks thirdChecks bodyChecks sideChecks fourFields firstPass shapeOf pieces isNumber numberOf readOn isMode modeOf decimal digitsOf joined row decision lineRow rows table generatorsFor product every chain least indexBack orbitSize keeps weight lettersAlone
 example-prints = refl
