@@ -10,7 +10,7 @@ use native.Mathlib.Omega.{arith}
 use lib.Dec.{eqb}
 use borrow.Author.Tests.{eqb-true, le-leb}
 use Rattle.action.specs.Lists.{every}
-use Rattle.text.specs.Text.{zeroDigit, extended, pieces, isDigit, readOn, numberOf, digitsOf, decimal}
+use Rattle.text.specs.Text.{zeroDigit, extended, pieces, isDigit, readOn, numberOf, digitsOf, wideDigits, decimal}
 use Rattle.text.proofs.Pieces.{pieces-some}
 use Rattle.text.proofs.Decimals.{digits-one, digits-more}
 
@@ -70,7 +70,7 @@ digits-number (suc f) n h = go (decLe 10 n) (digits-number f (n / 10))
         rw (digits-more (suc f) n many)
         (read-next 0 (digitsOf (suc f) (n / 10)) (zeroDigit + n % 10) ∙ omega (arith, tenth (omega (arith, pow-succ' 10 (suc f)))))
 
--- a number of at most 20 digits, written and read again
-pub decimal-number : (n : ℕ) → n < 10 ^ 20 → numberOf (decimal n) ≡ n
+-- a number, written and read again
+pub decimal-number : (n : ℕ) → n < 10 ^ wideDigits → numberOf (decimal n) ≡ n
 unfolding decimal
-decimal-number n h = digits-number 19 n h
+decimal-number n h = digits-number (wideDigits - 1) n h

@@ -16,7 +16,7 @@ use mir.Syntax.{w32, w64}
 use mir.Val.{SFits, ofZ, toZ}
 use mir.ValLaws.{toZ-pos, toZ-ofZ}
 use Rattle.action.specs.Lists.{every}
-use Rattle.text.specs.Text.{minus, zeroDigit, isDigit, isNumber, readOn, numberOf, isMode, modeOf}
+use Rattle.text.specs.Text.{minus, zeroDigit, nineDigit, isDigit, isNumber, readOn, numberOf, modeBound, isMode, modeOf}
 use Rattle.text.specs.Parts.{cap, modeRead}
 use Rattle.text.specs.declared.read.Mode.the-variants as Mode
 
@@ -37,14 +37,14 @@ pub every-end : (p : ℕ → Bool) (text : List ℕ) (i : ℕ) → length text �
 unfolding every
 every-end p text i h = simp (drop-of-length-le text h)
 
-pub digit-below : (b : ℕ) → b < 48 → isDigit b ≡ false
-digit-below b h = simp (lt-leb 48 b h)
+pub digit-below : (b : ℕ) → b < zeroDigit → isDigit b ≡ false
+digit-below b h = simp (lt-leb zeroDigit b h)
 
-pub digit-above : (b : ℕ) → 57 < b → isDigit b ≡ false
-digit-above b h = let l : 48 ≤ b = omega arith in simp (le-leb 48 b l, lt-leb b 57 h)
+pub digit-above : (b : ℕ) → nineDigit < b → isDigit b ≡ false
+digit-above b h = let l : zeroDigit ≤ b = omega arith in simp (le-leb zeroDigit b l, lt-leb b nineDigit h)
 
-pub digit-within : (b : ℕ) → 48 ≤ b → b ≤ 57 → isDigit b ≡ true
-digit-within b h k = simp (le-leb 48 b h, le-leb b 57 k)
+pub digit-within : (b : ℕ) → zeroDigit ≤ b → b ≤ nineDigit → isDigit b ≡ true
+digit-within b h k = simp (le-leb zeroDigit b h, le-leb b nineDigit k)
 
 -- ---- numbers without leading zeros
 
@@ -141,14 +141,14 @@ and-false false = refl
 
 -- a text that begins with a minus
 signed : (t : List ℕ) → 0 < length t → getD t 0 0 ≡ minus
-    → (isMode t ≡ (isNumber (drop 1 t) && not (eqb (numberOf (drop 1 t)) 0) && leb (numberOf (drop 1 t)) 2147483648))
+    → (isMode t ≡ (isNumber (drop 1 t) && not (eqb (numberOf (drop 1 t)) 0) && leb (numberOf (drop 1 t)) modeBound))
     × (modeOf t ≡ negsuc (numberOf (drop 1 t) - 1))
 unfolding isMode modeOf
 signed [] s e = absurd (omega arith)
 signed (b ∷ bs) s e = (simp (eq-eqb b minus e), simp (eq-eqb b minus e))
 
 module _ (text : List ℕ) (some : 0 < length text) (m : getD text 0 0 ≡ minus) where
-  is : isMode text ≡ (isNumber (drop 1 text) && not (eqb (numberOf (drop 1 text)) 0) && leb (numberOf (drop 1 text)) 2147483648)
+  is : isMode text ≡ (isNumber (drop 1 text) && not (eqb (numberOf (drop 1 text)) 0) && leb (numberOf (drop 1 text)) modeBound)
   is = signed text some m .0
 
   pub minus-no-number : isNumber (drop 1 text) ≡ false → modeRead text ≡ Mode.Other
@@ -160,49 +160,49 @@ module _ (text : List ℕ) (some : 0 < length text) (m : getD text 0 0 ≡ minus
         let n : numberOf (drop 1 text) ≡ 0 = omega arith in
         simp (is, eq-eqb (numberOf (drop 1 text)) 0 n, and-false (isNumber (drop 1 text)))
 
-    pub minus-large : 2147483648 < v → modeRead text ≡ Mode.Other
+    pub minus-large : modeBound < v → modeRead text ≡ Mode.Other
     minus-large h =
-        let n : 2147483648 < numberOf (drop 1 text) = omega arith in
-        simp (is, lt-leb (numberOf (drop 1 text)) 2147483648 n, and-false (isNumber (drop 1 text) && not (eqb (numberOf (drop 1 text)) 0)))
+        let n : modeBound < numberOf (drop 1 text) = omega arith in
+        simp (is, lt-leb (numberOf (drop 1 text)) modeBound n, and-false (isNumber (drop 1 text) && not (eqb (numberOf (drop 1 text)) 0)))
 
-    pub minus-value : isNumber (drop 1 text) ≡ true → 0 < v → v ≤ 2147483648 → Mode.Value (negsuc (v - 1)) ≡ modeRead text
+    pub minus-value : isNumber (drop 1 text) ≡ true → 0 < v → v ≤ modeBound → Mode.Value (negsuc (v - 1)) ≡ modeRead text
     minus-value t p h =
         let x : numberOf (drop 1 text) ≡ v = omega arith in
-        let n : numberOf (drop 1 text) ≤ 2147483648 = omega arith in
+        let n : numberOf (drop 1 text) ≤ modeBound = omega arith in
         let z : numberOf (drop 1 text) ≡ 0 → ⊥ = λ k. omega arith in
-        let k : isMode text ≡ true = is ∙ simp (t, ne-eqb (numberOf (drop 1 text)) 0 z, le-leb (numberOf (drop 1 text)) 2147483648 n) in
+        let k : isMode text ≡ true = is ∙ simp (t, ne-eqb (numberOf (drop 1 text)) 0 z, le-leb (numberOf (drop 1 text)) modeBound n) in
         sym (simp k (ap Mode.Value (signed text some m .1 ∙ ap (λ (y : ℕ). negsuc (y - 1)) x)))
 
 -- a text that begins with another byte
 plain : (t : List ℕ) → (getD t 0 0 ≡ minus → ⊥) → 0 < length t
-    → (isMode t ≡ (isNumber t && ltb (numberOf t) 2147483648)) × (modeOf t ≡ pos (numberOf t))
+    → (isMode t ≡ (isNumber t && ltb (numberOf t) modeBound)) × (modeOf t ≡ pos (numberOf t))
 unfolding isMode modeOf
 plain [] n s = absurd (omega arith)
 plain (b ∷ bs) n s = (simp (ne-eqb b minus n), simp (ne-eqb b minus n))
 
 module _ (text : List ℕ) (some : 0 < length text) (m : getD text 0 0 ≡ minus → ⊥) where
-  is-plain : isMode text ≡ (isNumber text && ltb (numberOf text) 2147483648)
+  is-plain : isMode text ≡ (isNumber text && ltb (numberOf text) modeBound)
   is-plain = plain text m some .0
 
   pub plain-no-number : isNumber text ≡ false → modeRead text ≡ Mode.Other
   plain-no-number e = simp (is-plain, e)
 
   module _ (v : ℕ) (e : v ≡ min (numberOf text) cap) where
-    pub plain-large : 2147483648 ≤ v → modeRead text ≡ Mode.Other
+    pub plain-large : modeBound ≤ v → modeRead text ≡ Mode.Other
     plain-large h =
-        let n : 2147483648 ≤ numberOf text = omega arith in
-        simp (is-plain, le-ltb (numberOf text) 2147483648 n, and-false (isNumber text))
+        let n : modeBound ≤ numberOf text = omega arith in
+        simp (is-plain, le-ltb (numberOf text) modeBound n, and-false (isNumber text))
 
-    pub plain-value : isNumber text ≡ true → v < 2147483648 → Mode.Value (toZ w32 v) ≡ modeRead text
+    pub plain-value : isNumber text ≡ true → v < modeBound → Mode.Value (toZ w32 v) ≡ modeRead text
     plain-value t h =
         let x : numberOf text ≡ v = omega arith in
-        let n : numberOf text < 2147483648 = omega arith in
-        let k : isMode text ≡ true = is-plain ∙ simp (t, lt-ltb (numberOf text) 2147483648 n) in
+        let n : numberOf text < modeBound = omega arith in
+        let k : isMode text ≡ true = is-plain ∙ simp (t, lt-ltb (numberOf text) modeBound n) in
         ap Mode.Value (toZ-pos w32 v (omega arith) ∙ sym (plain text m some .1 ∙ ap pos x)) ∙ sym (simp k)
 
 -- ---- a value made negative, as the code computes it from bits
 
-module _ (v : ℕ) (some : 0 < v) (small : v ≤ 2147483648) where
+module _ (v : ℕ) (some : 0 < v) (small : v ≤ modeBound) where
   less : pos 0 -ℤ toZ w64 v ≡ negsuc (v - 1)
   less = ap (λ (z : ℤ). pos 0 -ℤ z) (toZ-pos w64 v (omega arith)) ∙ go v some
     where

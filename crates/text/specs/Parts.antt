@@ -1,5 +1,5 @@
 -- What the functions of this crate come to.
-use Prim.Native.Nat.{ℕ, _+_}
+use Prim.Native.Nat.{ℕ, _+_, _^_}
 use mathlib.Core.Bool.{Bool, _&&_, not, cond}
 use mathlib.Core.List.{List, []}
 use lib.Dec.{eqb}
@@ -15,7 +15,7 @@ use Rattle.text.specs.Text.{space, before, pieces, isMode, modeOf}
 
 -- the largest value that is told apart: a number above it is read as it
 abbrev pub cap : ℕ
-cap = 4294967296
+cap = 2 ^ 32
 
 -- a text read as a mode
 abbrev pub modeRead : List ℕ → Mode

@@ -1,5 +1,5 @@
 -- Texts as lists of bytes: their pieces, and decimal numbers read and written.
-use Prim.Native.Nat.{ℕ, zero, suc, _+_, _-_, _*_, _/_, _%_}
+use Prim.Native.Nat.{ℕ, zero, suc, _+_, _-_, _*_, _/_, _%_, _^_}
 use mathlib.Core.Bool.{Bool, false, _&&_, not, cond}
 use mathlib.Core.List.{List, [], _∷_, _++_}
 use lib.Dec.{eqb, leb, ltb}
@@ -21,6 +21,9 @@ minus = 45
 abbrev pub zeroDigit : ℕ
 zeroDigit = 48
 
+abbrev pub nineDigit : ℕ
+nineDigit = 57
+
 -- ---- pieces
 
 -- the bytes before the first c, or all
@@ -41,7 +44,7 @@ pieces c (b ∷ bs) = let ps = pieces c bs in cond (eqb b c) ([] ∷ ps) (extend
 -- ---- numbers
 
 abbrev pub isDigit : ℕ → Bool
-isDigit b = leb 48 b && leb b 57
+isDigit b = leb zeroDigit b && leb b nineDigit
 
 -- a number in decimal, without leading zeros
 unfoldable pub isNumber : List ℕ → Bool
@@ -60,12 +63,16 @@ unfoldable pub numberOf : List ℕ → ℕ
 unfolding readOn
 numberOf bs = readOn 0 bs
 
+-- modes lie below it, and no lower than minus it
+abbrev pub modeBound : ℕ
+modeBound = 2 ^ 31
+
 -- a mode: a number of 32 bits with a sign, an optional minus before it, which 0 has not
 unfoldable pub isMode : List ℕ → Bool
 unfolding isNumber numberOf
 isMode [] = false
 isMode (b ∷ bs) =
-    cond (eqb b minus) (isNumber bs && not (eqb (numberOf bs) 0) && leb (numberOf bs) 2147483648) (isNumber (b ∷ bs) && ltb (numberOf (b ∷ bs)) 2147483648)
+    cond (eqb b minus) (isNumber bs && not (eqb (numberOf bs) 0) && leb (numberOf bs) modeBound) (isNumber (b ∷ bs) && ltb (numberOf (b ∷ bs)) modeBound)
 
 -- the mode that a text writes
 unfoldable pub modeOf : List ℕ → ℤ
@@ -78,10 +85,22 @@ unfoldable pub digitsOf : ℕ → ℕ → List ℕ
 digitsOf zero n = []
 digitsOf (suc f) n = let r = digitsOf f (n / 10) ++ ((zeroDigit + n % 10) ∷ []) in cond (ltb n 10) ((zeroDigit + n) ∷ []) r
 
--- a number in decimal, of at most 20 digits
+-- the most digits of a number in decimal: as many as a number of 64 bits has
+abbrev pub wideDigits : ℕ
+wideDigits = 20
+
+-- a number in decimal
 unfoldable pub decimal : ℕ → List ℕ
 unfolding digitsOf
-decimal n = digitsOf 20 n
+decimal n = digitsOf wideDigits n
+
+-- the most digits of a number that is written
+abbrev pub maxDigits : ℕ
+maxDigits = 7
+
+-- the numbers that are written lie below it
+abbrev pub maxWritten : ℕ
+maxWritten = 10 ^ maxDigits
 
 -- ---- a text written into a list from a place on; the rest stays
 

@@ -3,11 +3,14 @@ ghost use mathlib.Core.Path.{_≡_};
 ghost use Prim.Native.Nat.{_-_, _≤_, _<_, min};
 ghost use lib.ListN.{length, getD};
 ghost use Rattle.action.specs.Lists.{sameNumbers, every};
-ghost use Rattle.text.specs.Text.{minus, before, isDigit, isNumber, numberOf};
+ghost use Rattle.text.specs.Text.{minus, zeroDigit, before, isDigit, isNumber, numberOf};
 ghost use Rattle.text.specs.Parts.{cap, modeRead, fieldFrom, fieldsRead};
 
 // The largest value that is told apart.
 pub const CAP: u64 = 4294967296;
+
+// Modes lie below it, and no lower than minus it.
+pub const MODE_BOUND: u64 = 2147483648;
 
 // A text read as a mode.
 pub enum Mode {
@@ -68,10 +71,10 @@ pub fn digits_alone(text: &[u8]) -> bool
 {
     let mut i = 0;
     while i < text.len() {
-        if text[i] < 48 {
+        if text[i] < b'0' {
             return false;
         }
-        if 57 < text[i] {
+        if b'9' < text[i] {
             return false;
         }
         i += 1;
@@ -89,7 +92,7 @@ pub fn is_number(text: &[u8]) -> bool
     if text.len() == 1 {
         return digits_alone(text);
     }
-    if text[0] == 48 {
+    if text[0] == b'0' {
         return false;
     }
     digits_alone(text)
@@ -97,9 +100,9 @@ pub fn is_number(text: &[u8]) -> bool
 
 // The number of a digit; 0 for a byte below the digits.
 pub fn digit(byte: u8) -> u64
-    ensures { λ r. ⌜ r ≡ byte - 48 ⌝ }
+    ensures { λ r. ⌜ r ≡ byte - zeroDigit ⌝ }
 {
-    if byte < 48 { 0 } else { (byte - 48) as u64 }
+    if byte < b'0' { 0 } else { (byte - b'0') as u64 }
 }
 
 pub fn capped(value: u64) -> u64
@@ -128,14 +131,14 @@ pub fn read_mode(text: &[u8]) -> Mode
     if text.len() == 0 {
         return Mode::Other;
     }
-    if text[0] == 45 {
+    if text[0] == b'-' {
         return negative(text);
     }
     if !is_number(text) {
         return Mode::Other;
     }
     let v = value(text);
-    if v < 2147483648 {
+    if v < MODE_BOUND {
         Mode::Value(v as i32)
     } else {
         Mode::Other
@@ -155,7 +158,7 @@ pub fn negative(text: &[u8]) -> Mode
     if v == 0 {
         return Mode::Other;
     }
-    if v <= 2147483648 {
+    if v <= MODE_BOUND {
         Mode::Value((0 - (v as i64)) as i32)
     } else {
         Mode::Other
@@ -168,7 +171,7 @@ pub fn field_from(line: &[u8], start: usize) -> Field
     ensures { λ r. ⌜ r ≡ fieldFrom (now (line .entry)) start ⌝ }
 {
     let text = &line[start..];
-    let k = find(text, 32);
+    let k = find(text, b' ');
     if k == 0 {
         return Field::Empty;
     }

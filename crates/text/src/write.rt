@@ -2,7 +2,7 @@
 ghost use mathlib.Core.Path.{_≡_};
 ghost use Prim.Native.Nat.{_+_, _≤_, _<_};
 ghost use lib.ListN.{length, drop};
-ghost use Rattle.text.specs.Text.{decimal, put};
+ghost use Rattle.text.specs.Text.{decimal, maxDigits, maxWritten, put};
 
 // The most digits of a number that is written.
 pub const MAX_DIGITS: usize = 7;
@@ -21,10 +21,10 @@ pub fn append(list: &mut [u8], at: usize, text: &[u8]) -> usize
     at + i
 }
 
-// Writes a number below 10^7 in decimal; the place after it.
+// Writes a number of at most MAX_DIGITS digits in decimal; the place after it.
 pub fn append_decimal(list: &mut [u8], at: usize, number: usize) -> usize
-    requires { ⌜ number < 10000000 ⌝ }
-    requires { ⌜ at + 7 ≤ length (now list) ⌝ }
+    requires { ⌜ number < maxWritten ⌝ }
+    requires { ⌜ at + maxDigits ≤ length (now list) ⌝ }
     ensures place { λ r. ⌜ r ≡ at + length (decimal number) ⌝ }
     ensures list { λ _. ⌜ now (list .exit) ≡ put at (decimal number) (now (list .entry)) ⌝ }
 {
@@ -33,19 +33,19 @@ pub fn append_decimal(list: &mut [u8], at: usize, number: usize) -> usize
     append(list, at, &digits[first..])
 }
 
-// The digits of a number at the end of a list of 7 places; where they begin.
+// The digits of a number at the end of a list of MAX_DIGITS places; where they begin.
 pub fn fill_digits(digits: &mut [u8], number: usize) -> usize
-    requires { ⌜ (number < 10000000) × (length (now digits) ≡ 7) ⌝ }
-    ensures place { λ r. ⌜ r + length (decimal number) ≡ 7 ⌝ }
+    requires { ⌜ (number < maxWritten) × (length (now digits) ≡ maxDigits) ⌝ }
+    ensures place { λ r. ⌜ r + length (decimal number) ≡ maxDigits ⌝ }
     ensures digits { λ r. ⌜ drop r (now (digits .exit)) ≡ decimal number ⌝ }
 {
     let mut rest = number;
     let mut i = MAX_DIGITS - 1;
-    digits[i] = (48 + rest % 10) as u8;
+    digits[i] = b'0' + (rest % 10) as u8;
     while 10 <= rest {
         rest = rest / 10;
         i = i - 1;
-        digits[i] = (48 + rest % 10) as u8;
+        digits[i] = b'0' + (rest % 10) as u8;
     }
     i
 }

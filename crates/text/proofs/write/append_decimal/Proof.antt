@@ -5,7 +5,7 @@ use mathlib.Core.List.{List}
 use denote.Ref.{now}
 use lib.ListN.{length, take, drop}
 use borrow.Author.Needs.{needs}
-use Rattle.text.specs.Text.{decimal, put}
+use Rattle.text.specs.Text.{decimal, maxDigits, put}
 use Rattle.text.proofs.Decimals.{rest-slice}
 use Rattle.text.proofs.write.append_decimal.Statement.{statement}
 use Rattle.text.proofs.write.append_decimal.Tie as tie
@@ -36,7 +36,10 @@ returns c =
     let s = c .before .before .before .before .before .before .before .before .before .before in
     let filled = c .before .before .before .before .before .before .before .fill-digits in
     let written = c .before .before .append .ensures in
-    let e : take (7 - filled .result) (drop (filled .result) (filled .last .0)) ≡ decimal (s .args .number) = rest-slice (filled .last .0) (filled .result) 7 (search needs) (filled .ensures .1) in
+    let list = filled .last .0 in
+    let e : take (maxDigits - filled .result) (drop (filled .result) list) ≡ decimal (s .args .number) =
+    rest-slice list (filled .result) maxDigits (search needs) ∙ filled .ensures .1
+    in
     (written .0 ∙ ap (λ (t : List ℕ). s .args .at + length t) e, written .1 ∙ ap (λ (t : List ℕ). put (s .args .at) t (now (s .args .list))) e)
 
 pub append-decimal-spec : {M : Type 1} → statement M
