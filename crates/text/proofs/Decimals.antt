@@ -59,11 +59,11 @@ pub decimal-most : (n : ℕ) → length (decimal n) ≤ wideDigits
 unfolding decimal
 decimal-most n = digits-most wideDigits n
 
-pub decimal-one : (n : ℕ) → n < 10 → decimal n ≡ (zeroDigit + n) ∷ []
+decimal-one : (n : ℕ) → n < 10 → decimal n ≡ (zeroDigit + n) ∷ []
 unfolding decimal
 decimal-one n h = digits-one (wideDigits - 1) n h
 
-pub decimal-more : (n : ℕ) → 10 ≤ n → n < 10 ^ wideDigits → decimal n ≡ decimal (n / 10) ++ ((zeroDigit + n % 10) ∷ [])
+decimal-more : (n : ℕ) → 10 ≤ n → n < 10 ^ wideDigits → decimal n ≡ decimal (n / 10) ++ ((zeroDigit + n % 10) ∷ [])
 unfolding decimal
 decimal-more n many h =
     digits-more (wideDigits - 1) n many

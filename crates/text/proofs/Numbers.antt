@@ -92,7 +92,7 @@ unfolding readOn
 readOn-grows a [] = omega arith
 readOn-grows a (b ∷ bs) = omega (arith, readOn-grows (10 * a + (b - zeroDigit)) bs)
 
-pub readOn-capped : (m a : ℕ) (bs : List ℕ) → min (readOn (min a m) bs) m ≡ min (readOn a bs) m
+readOn-capped : (m a : ℕ) (bs : List ℕ) → min (readOn (min a m) bs) m ≡ min (readOn a bs) m
 readOn-capped m a bs = go (leb a m) refl
   where
     go : (t : Bool) → leb a m ≡ t → min (readOn (min a m) bs) m ≡ min (readOn a bs) m
@@ -117,10 +117,6 @@ value-next m v d w text i h p q =
 pub value-end : (m v : ℕ) (text : List ℕ) (i : ℕ) → length text ≤ i → v ≤ m → min (readOn v (drop i text)) m ≡ v
 unfolding readOn
 value-end m v text i h l = ap (λ (bs : List ℕ). min (readOn v bs) m) (drop-of-length-le text h) ∙ min-eq-left l
-
--- a value below the cap is the number
-pub capped-value : (t : List ℕ) (v : ℕ) → v ≡ min (numberOf t) cap → v < cap → v ≡ numberOf t
-capped-value t v e h = omega arith
 
 pub capped-zero : (x v : ℕ) → v ≡ min x cap → v ≡ 0 → x ≡ 0
 capped-zero x v e z = omega arith

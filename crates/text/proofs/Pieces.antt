@@ -137,7 +137,7 @@ pieces-some c text = go (eq-or-lt-of-le (before-short c text))
     go (inr h) = (take (length (before c text)) text, pieces c (drop (length (before c text) + 1) text), pieces-next c text _ refl h)
 
 -- the first of several pieces, and those of the rest
-pub pieces-first : (c : ℕ) (text p q : List ℕ) (ps : List (List ℕ)) → pieces c text ≡ p ∷ q ∷ ps
+pieces-first : (c : ℕ) (text p q : List ℕ) (ps : List (List ℕ)) → pieces c text ≡ p ∷ q ∷ ps
     → (length p < length text) × (take (length p) text ≡ p) × (pieces c (drop (length p + 1) text) ≡ q ∷ ps)
 pieces-first c text p q ps e = go (length (before c text)) refl (eq-or-lt-of-le (before-short c text))
   where
@@ -155,7 +155,7 @@ pieces-first c text p q ps e = go (length (before c text)) refl (eq-or-lt-of-le 
         (omega arith, ap (λ (j : ℕ). take j text) l ∙ t, ap (λ (j : ℕ). pieces c (drop (j + 1) text)) l ∙ r)
 
 -- a piece that stands alone
-pub pieces-only : (c : ℕ) (text p : List ℕ) → pieces c text ≡ p ∷ [] → p ≡ text
+pieces-only : (c : ℕ) (text p : List ℕ) → pieces c text ≡ p ∷ [] → p ≡ text
 pieces-only c text p e = go (eq-or-lt-of-le (before-short c text))
   where
     go : (length (before c text) ≡ length text) ⊎ (length (before c text) < length text) → p ≡ text
@@ -200,25 +200,19 @@ pub record FourParts (line : List ℕ) (a b c : ℕ) : Type 0 where
       ≡ take a line ∷ part (a + 1) b line ∷ part (b + 1) c line ∷ part (c + 1) (length line) line ∷ []
 
 module _ (line : List ℕ) (a b c : ℕ) (four : FourParts line a b c) where
-  pub part-first : length (take a line) ≡ a
+  part-first : length (take a line) ≡ a
   part-first = length-take-le a line (omega arith)
 
-  pub part-second : length (part (a + 1) b line) ≡ b - (a + 1)
+  part-second : length (part (a + 1) b line) ≡ b - (a + 1)
   part-second = length-take-le (b - (a + 1)) (drop (a + 1) line) (simp length-drop (omega arith))
 
-  pub part-third : length (part (b + 1) c line) ≡ c - (b + 1)
+  part-third : length (part (b + 1) c line) ≡ c - (b + 1)
   part-third = length-take-le (c - (b + 1)) (drop (b + 1) line) (simp length-drop (omega arith))
 
-  pub part-fourth : length (part (c + 1) (length line) line) ≡ length line - (c + 1)
+  part-fourth : length (part (c + 1) (length line) line) ≡ length line - (c + 1)
   part-fourth = length-take-le (length line - (c + 1)) (drop (c + 1) line) (simp length-drop (omega arith))
 
-  pub parts-length :
-      length line
-      ≡ length (take a line) + length (part (a + 1) b line) + length (part (b + 1) c line)
-      + length (part (c + 1) (length line) line) + 3
-  parts-length = omega (arith, part-first, part-second, part-third, part-fourth)
-
-  pub parts-some :
+  parts-some :
       (0 < length (take a line)) × (0 < length (part (a + 1) b line)) × (0 < length (part (b + 1) c line))
       × (0 < length (part (c + 1) (length line) line))
   parts-some = (omega (arith, part-first), omega (arith, part-second), omega (arith, part-third), omega (arith, part-fourth))

@@ -45,10 +45,10 @@ cast-t10 : tie.Need-cast-t10
 cast-t10 c = search needs
 
 sub-t11 : tie.Need-sub-t11
-sub-t11 c = less-fits (c .before .before .value .result) (omega arith) (c .if3 .taken)
+sub-t11 c = less-fits (c .before .before .value .result) (omega arith) (omega arith)
 
 cast-t12 : tie.Need-cast-t12
-cast-t12 c = narrow-fits (c .before .before .value .result) (omega arith) (c .if3 .taken)
+cast-t12 c = narrow-fits (c .before .before .value .result) (omega arith) (omega arith)
 
 returns-3 : tie.Need-returns-3
 returns-3 c =
@@ -57,15 +57,15 @@ returns-3 c =
     let v = c .before .before .value in
     let e = v .ensures ∙ ap (λ b. min (numberOf b) cap) (rest-part 1 t) in
     let told = sym (c .before .before .before .before .is-number .ensures) ∙ not-false _ (c .before .before .before .if1 .left) in
-    ap Mode.Value (negated (v .result) (omega arith) (c .if3 .taken))
-    ∙ minus-value t (s .pre .0) (s .pre .1) (v .result) e (ap isNumber (sym (rest-part 1 t)) ∙ told) (omega arith) (c .if3 .taken)
+    ap Mode.Value (negated (v .result) (omega arith) (omega arith))
+    ∙ minus-value t (s .pre .0) (s .pre .1) (v .result) e (ap isNumber (sym (rest-part 1 t)) ∙ told) (omega arith) (omega arith)
 
 returns-4 : tie.Need-returns-4
 returns-4 c =
     let s = c .before .before .before .before .before .before .before in
     let t = now (s .args .text) in
     let v = c .before .before .value in
-    sym (minus-large t (s .pre .0) (s .pre .1) (v .result) (v .ensures ∙ ap (λ b. min (numberOf b) cap) (rest-part 1 t)) (c .if3 .left))
+    sym (minus-large t (s .pre .0) (s .pre .1) (v .result) (v .ensures ∙ ap (λ b. min (numberOf b) cap) (rest-part 1 t)) (omega arith))
 
 pub negative-spec : {M : Type 1} → statement M
 negative-spec =
