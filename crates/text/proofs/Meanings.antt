@@ -1,18 +1,37 @@
--- The definitions are what their names say, to be read without the proofs: the pieces of a text, with the byte between them, are the text, and no piece
--- has the byte; a number in decimal is read as that number.
-use Prim.Native.Nat.{ℕ, zero, suc, _+_, _-_, _*_, _/_, _%_, _^_, _≤_, _<_}
-use mathlib.Core.Path.{_≡_, refl, sym, ap, _∙_}
-use mathlib.Core.Bool.{Bool, true, false, not, _&&_, cond, and-eq-true-iff}
-use mathlib.Core.List.{List, [], _∷_, _++_}
-use native.Mathlib.Nat.{pow-succ'}
-use native.Mathlib.Decide.{decLe}
+-- The definitions are what their names say, to be read without the proofs. The pieces of a text, with the byte between them, are the text, and no
+-- piece has the byte; the fields are pieces; a number in decimal is read as that number, and its text is the only one that is; so is a mode's; a
+-- text that is put into a list stands there, and the rest stays. What such laws leave open, as the base of the numbers, examples settle.
+use Prim.Native.Nat.{ℕ, suc, _+_, _-_, _^_, _≤_, _<_}
+use mathlib.Core.Path.{_≡_, refl, sym, ap, ap₂, _∙_}
+use mathlib.Core.Bool.{Bool, true, false, _&&_, not, cond, false≢true, and-eq-true-iff}
+use mathlib.Core.List.{List, [], _∷_, _++_, map}
 use native.Mathlib.Omega.{arith}
-use lib.Dec.{eqb}
-use borrow.Author.Tests.{eqb-true, le-leb}
-use Rattle.action.specs.Lists.{every}
-use Rattle.text.specs.Text.{zeroDigit, extended, pieces, isDigit, readOn, numberOf, digitsOf, wideDigits, decimal}
-use Rattle.text.proofs.Pieces.{pieces-some}
-use Rattle.text.proofs.Decimals.{digits-one, digits-more}
+use lib.Dec.{eqb, leb, ltb}
+use lib.IntN.{ℤ, pos, negsuc}
+use lib.ListN.{length, getD, take, drop}
+use lib.Seq.{length-take-le, take-at, drop-at, drop-drop, take-append-seam, drop-append-seam}
+use borrow.Author.Tests.{eqb-true, eqb-false, ne-eqb, leb-true, le-leb, ltb-true, lt-ltb, not-true}
+use mir.Syntax.{w32}
+use mir.Val.{SFits}
+use Rattle.action.specs.Lists.{from, below, select, count, every}
+use Rattle.text.specs.Text.{lineEnd, space, minus, zeroDigit, nineDigit, before, extended, pieces, isDigit, isNumber, numberOf, modeBound, isMode, modeOf, digitsOf, wideDigits, decimal, put}
+use Rattle.text.specs.Parts.{modeRead, fieldFrom, fourFields, fieldLength, fieldsRead}
+use Rattle.text.specs.Quoted.{bytes}
+use Rattle.text.specs.declared.read.Mode.the-variants as Mode
+use Rattle.text.specs.declared.read.Field.the-variants as Field
+use Rattle.text.specs.declared.read.Fields.the-variants as Fields
+use Rattle.text.proofs.Pieces.{pieces-some, FourParts, four-parts}
+use Rattle.text.proofs.Numbers.{signed, plain}
+use Rattle.text.proofs.Roundtrip.{digits-number, digits-isNumber, number-digits, number-begins}
+
+-- ---- bytes
+
+pub byte-names : lineEnd ∷ space ∷ minus ∷ zeroDigit ∷ nineDigit ∷ [] ≡ bytes "\n -09"
+byte-names = refl
+
+pub digit-bytes : select isDigit (below 256) ≡ bytes "0123456789"
+unfolding select below from
+digit-bytes = refl
 
 -- ---- pieces
 
@@ -48,29 +67,160 @@ pieces-whole c (b ∷ bs) = go (eqb b c) refl (pieces-some c bs) (pieces-whole c
     go true t s e = e
     go false t (p, ps, s) e = rw (s, t) (sym (ap (every (λ p. every (λ b. not (eqb b c)) p)) s) ∙ e)
 
--- ---- decimals
-
-read-next : (a : ℕ) (xs : List ℕ) (d : ℕ) → readOn a (xs ++ (d ∷ [])) ≡ 10 * readOn a xs + (d - zeroDigit)
-unfolding readOn
-read-next a [] d = refl
-read-next a (x ∷ xs) d = read-next (10 * a + (x - zeroDigit)) xs d
-
-digits-one-number : (f n : ℕ) → n < 10 → numberOf (digitsOf (suc f) n) ≡ n
-unfolding numberOf readOn
-digits-one-number f n h = rw (digits-one f n h) (omega arith)
-
-digits-number : (f n : ℕ) → n < 10 ^ suc f → numberOf (digitsOf (suc f) n) ≡ n
-unfolding numberOf
-digits-number zero n h = digits-one-number zero n (omega (arith, pow-succ' 10 0))
-digits-number (suc f) n h = go (decLe 10 n) (digits-number f (n / 10))
+pub pieces-count : (c : ℕ) (text : List ℕ) → length (pieces c text) ≡ suc (count (λ b. eqb b c) text)
+unfolding pieces count
+pieces-count c [] = refl
+pieces-count c (b ∷ bs) = go (eqb b c) (pieces-some c bs) (pieces-count c bs)
   where
-    go : Dec (10 ≤ n) → (n / 10 < 10 ^ suc f → numberOf (digitsOf (suc f) (n / 10)) ≡ n / 10) → numberOf (digitsOf (suc (suc f)) n) ≡ n
-    go (no few) tenth = digits-one-number (suc f) n (omega arith)
-    go (yes many) tenth =
-        rw (digits-more (suc f) n many)
-        (read-next 0 (digitsOf (suc f) (n / 10)) (zeroDigit + n % 10) ∙ omega (arith, tenth (omega (arith, pow-succ' 10 (suc f)))))
+    go : (t : Bool) → (p : List ℕ) × (ps : List (List ℕ)) × (pieces c bs ≡ p ∷ ps) → length (pieces c bs) ≡ suc (count (λ b. eqb b c) bs)
+        → length (cond t ([] ∷ pieces c bs) (extended b (pieces c bs))) ≡ suc (cond t 1 0 + count (λ b. eqb b c) bs)
+    go true s e = omega arith
+    go false (p, ps, s) e = ap (λ (l : List (List ℕ)). length (extended b l)) s ∙ omega (arith, ap length s)
 
--- a number, written and read again
-pub decimal-number : (n : ℕ) → n < 10 ^ wideDigits → numberOf (decimal n) ≡ n
+pub first-before : (c : ℕ) (text : List ℕ) → getD (pieces c text) 0 [] ≡ before c text
+unfolding pieces before
+first-before c [] = refl
+first-before c (b ∷ bs) = go (eqb b c) (pieces-some c bs) (first-before c bs)
+  where
+    go : (t : Bool) → (p : List ℕ) × (ps : List (List ℕ)) × (pieces c bs ≡ p ∷ ps) → getD (pieces c bs) 0 [] ≡ before c bs
+        → getD (cond t ([] ∷ pieces c bs) (extended b (pieces c bs))) 0 [] ≡ cond t [] (b ∷ before c bs)
+    go true s e = refl
+    go false (p, ps, s) e =
+        ap (λ (l : List (List ℕ)). getD (extended b l) 0 []) s
+        ∙ ap (λ (l : List ℕ). b ∷ l) (sym (ap (λ (l : List (List ℕ)). getD l 0 []) s) ∙ e)
+
+-- ---- fields
+
+-- where the four fields of a line end; `parts-read` is the converse
+pub fields-parts : (line : List ℕ) (a b c : ℕ) → fieldsRead line ≡ Fields.Four a b c → FourParts line a b c
+fields-parts line a b c e = go (fourFields line) refl e
+  where
+    x : ℕ
+    x = fieldLength line 0
+
+    y : ℕ
+    y = x + 1 + fieldLength line 1
+
+    z : ℕ
+    z = y + 1 + fieldLength line 2
+
+    go : (t : Bool) → fourFields line ≡ t → cond t (Fields.Four x y z) Fields.Other ≡ Fields.Four a b c → FourParts line a b c
+    go true t e =
+        let p : a ≡ x = cc in
+        let q : b ≡ y = cc in
+        let r : c ≡ z = cc in
+        rw (p, q, r) (four-parts line t)
+    go false t e = let w : _≡_ {A = ℕ} 0 1 = cc in absurd (omega arith)
+
+pub fields-examples :
+    map fieldsRead (bytes "ab c def g" ∷ bytes "ab c def" ∷ bytes "ab c def g h" ∷ bytes "ab  def g" ∷ bytes "ab c def " ∷ [])
+    ≡ Fields.Four 2 4 8 ∷ Fields.Other ∷ Fields.Other ∷ Fields.Other ∷ Fields.Other ∷ []
+unfolding fourFields pieces every
+fields-examples = refl
+
+pub field-examples :
+    map (fieldFrom (bytes "ab c  d")) (0 ∷ 1 ∷ 3 ∷ 5 ∷ 6 ∷ 7 ∷ [])
+    ≡ Field.Ends 2 ∷ Field.Ends 2 ∷ Field.Ends 4 ∷ Field.Empty ∷ Field.Last ∷ Field.Empty ∷ []
+unfolding before
+field-examples = refl
+
+-- ---- numbers; `Roundtrip` has these laws for any number of digits
+
+module _ (n : ℕ) (small : n < 10 ^ wideDigits) where
+  pub decimal-number : numberOf (decimal n) ≡ n
+  unfolding decimal
+  decimal-number = digits-number (wideDigits - 1) n small
+
+  pub decimal-isNumber : isNumber (decimal n) ≡ true
+  unfolding decimal
+  decimal-isNumber = digits-isNumber (wideDigits - 1) n small
+
+pub number-decimal : (t : List ℕ) → isNumber t ≡ true → numberOf t < 10 ^ wideDigits → decimal (numberOf t) ≡ t
 unfolding decimal
-decimal-number n h = digits-number (wideDigits - 1) n h
+number-decimal t h small = number-digits (wideDigits - 1) t h small
+
+pub decimal-examples :
+    map decimal (0 ∷ 9 ∷ 10 ∷ 907 ∷ (2 ^ 64 - 1) ∷ [])
+    ≡ bytes "0" ∷ bytes "9" ∷ bytes "10" ∷ bytes "907" ∷ bytes "18446744073709551615" ∷ []
+unfolding decimal digitsOf
+decimal-examples = refl
+
+-- ---- modes
+
+-- a signed number in decimal
+abbrev pub modeText : ℤ → List ℕ
+modeText (pos n) = decimal n
+modeText (negsuc n) = minus ∷ decimal (suc n)
+
+pub mode-text : (z : ℤ) → SFits w32 z → (isMode (modeText z) ≡ true) × (modeOf (modeText z) ≡ z)
+mode-text (pos n) fits =
+    let wide : n < 10 ^ wideDigits = omega (arith, fits .sfits) in
+    let is = decimal-isNumber n wide in
+    let same = decimal-number n wide in
+    let (some, other) = number-begins (decimal n) is in
+    let (test, value) = plain (decimal n) other some in
+    let low : numberOf (decimal n) < modeBound = omega (arith, fits .sfits, same) in
+    (test ∙ simp (is, lt-ltb (numberOf (decimal n)) modeBound low), value ∙ ap pos same)
+mode-text (negsuc n) fits =
+    let wide : suc n < 10 ^ wideDigits = omega (arith, fits .sfits) in
+    let is = decimal-isNumber (suc n) wide in
+    let same = decimal-number (suc n) wide in
+    let (test, value) = signed (minus ∷ decimal (suc n)) (omega arith) refl in
+    let low : numberOf (decimal (suc n)) ≤ modeBound = omega (arith, fits .sfits, same) in
+    let some : numberOf (decimal (suc n)) ≡ 0 → ⊥ = λ e. omega (arith, same) in
+    let e : numberOf (decimal (suc n)) - 1 ≡ n = omega (arith, same) in
+    (test ∙ simp (is, ne-eqb (numberOf (decimal (suc n))) 0 some, le-leb (numberOf (decimal (suc n))) modeBound low), value ∙ ap negsuc e)
+
+pub text-mode : (t : List ℕ) → isMode t ≡ true → SFits w32 (modeOf t) × (modeText (modeOf t) ≡ t)
+unfolding isMode modeOf
+text-mode [] h = absurd (false≢true h)
+text-mode (b ∷ bs) h = go (eqb b minus) refl h
+  where
+    go : (t : Bool) → eqb b minus ≡ t
+        → cond t (isNumber bs && not (eqb (numberOf bs) 0) && leb (numberOf bs) modeBound) (isNumber (b ∷ bs) && ltb (numberOf (b ∷ bs)) modeBound) ≡ true
+        → SFits w32 (cond t (negsuc (numberOf bs - 1)) (pos (numberOf (b ∷ bs))))
+        × (modeText (cond t (negsuc (numberOf bs - 1)) (pos (numberOf (b ∷ bs)))) ≡ b ∷ bs)
+    go true e k =
+        let (front, high) = and-eq-true-iff (isNumber bs && not (eqb (numberOf bs) 0)) (leb (numberOf bs) modeBound) .0 k in
+        let (is, some) = and-eq-true-iff (isNumber bs) (not (eqb (numberOf bs) 0)) .0 front in
+        let small = leb-true (numberOf bs) modeBound high in
+        let other = eqb-false (numberOf bs) 0 (not-true (eqb (numberOf bs) 0) some) in
+        let one : suc (numberOf bs - 1) ≡ numberOf bs = omega arith in
+        (record { sfits = omega arith }, ap₂ _∷_ (sym (eqb-true b minus e)) (ap decimal one ∙ number-decimal bs is (omega arith)))
+    go false e k =
+        let (is, low) = and-eq-true-iff (isNumber (b ∷ bs)) (ltb (numberOf (b ∷ bs)) modeBound) .0 k in
+        let small = ltb-true (numberOf (b ∷ bs)) modeBound low in
+        (record { sfits = omega arith }, number-decimal (b ∷ bs) is (omega arith))
+
+pub mode-read : (z : ℤ) → SFits w32 z → modeRead (modeText z) ≡ Mode.Value z
+mode-read z fits = let (is, value) = mode-text z fits in rw is (ap Mode.Value value)
+
+pub read-mode : (t : List ℕ) (z : ℤ) → modeRead t ≡ Mode.Value z → SFits w32 z × (modeText z ≡ t)
+read-mode t z e = go (isMode t) refl e
+  where
+    go : (b : Bool) → isMode t ≡ b → cond b (Mode.Value (modeOf t)) Mode.Other ≡ Mode.Value z → SFits w32 z × (modeText z ≡ t)
+    go true is e = let same : z ≡ modeOf t = cc in rw same (text-mode t is)
+    go false is e = let w : _≡_ {A = ℕ} 0 1 = cc in absurd (omega arith)
+
+-- ---- a text put into a list where there is room for it; `put-length` says that the list keeps its length
+
+module _ (at : ℕ) (text list : List ℕ) (room : at + length text ≤ length list) where
+  long : length (take at list) ≡ at
+  long = length-take-le at list (omega arith)
+
+  from-place : drop at (put at text list) ≡ text ++ drop (at + length text) list
+  unfolding put
+  from-place = drop-at (take at list) (text ++ drop (at + length text) list) at long
+
+  pub put-before : take at (put at text list) ≡ take at list
+  unfolding put
+  put-before = take-at (take at list) (text ++ drop (at + length text) list) at long
+
+  pub put-text : take (length text) (drop at (put at text list)) ≡ text
+  put-text = rw from-place (take-append-seam text (drop (at + length text) list))
+
+  pub put-after : drop (at + length text) (put at text list) ≡ drop (at + length text) list
+  put-after =
+      sym (drop-drop (length text) at (put at text list))
+      ∙ ap (drop (length text)) from-place
+      ∙ drop-append-seam text (drop (at + length text) list)

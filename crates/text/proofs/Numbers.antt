@@ -3,7 +3,7 @@
 use Prim.Native.Nat.{ℕ, zero, suc, _+_, _-_, _*_, _≤_, _<_, min}
 use mathlib.Core.Path.{_≡_, refl, sym, ap, _∙_}
 use mathlib.Core.Bool.{Bool, true, false, _&&_, not}
-use mathlib.Core.List.{List, [], _∷_}
+use mathlib.Core.List.{List, [], _∷_, _++_}
 use native.Mathlib.Nat.{le-trans, min-eq-left, min-eq-right}
 use native.Mathlib.Numerals.{add-one}
 use native.Mathlib.Omega.{arith}
@@ -36,6 +36,15 @@ module _ (p : ℕ → Bool) (text : List ℕ) (i : ℕ) (h : i < length text) wh
 pub every-end : (p : ℕ → Bool) (text : List ℕ) (i : ℕ) → length text ≤ i → every p (drop i text) ≡ true
 unfolding every
 every-end p text i h = simp (drop-of-length-le text h)
+
+pub every-append : {A : Type 0} (p : A → Bool) (xs ys : List A) → every p (xs ++ ys) ≡ (every p xs && every p ys)
+unfolding every
+every-append p [] ys = refl
+every-append p (x ∷ xs) ys = ap (λ (t : Bool). p x && t) (every-append p xs ys) ∙ and-assoc (p x) (every p xs) (every p ys)
+  where
+    and-assoc : (t u v : Bool) → (t && (u && v)) ≡ ((t && u) && v)
+    and-assoc true u v = refl
+    and-assoc false u v = refl
 
 pub digit-below : (b : ℕ) → b < zeroDigit → isDigit b ≡ false
 digit-below b h = simp (lt-leb zeroDigit b h)
@@ -87,7 +96,7 @@ number-more (b ∷ c ∷ bs) l n =
 
 -- ---- numbers up to the cap
 
-readOn-grows : (a : ℕ) (bs : List ℕ) → a ≤ readOn a bs
+pub readOn-grows : (a : ℕ) (bs : List ℕ) → a ≤ readOn a bs
 unfolding readOn
 readOn-grows a [] = omega arith
 readOn-grows a (b ∷ bs) = omega (arith, readOn-grows (10 * a + (b - zeroDigit)) bs)
@@ -136,7 +145,7 @@ and-false true = refl
 and-false false = refl
 
 -- a text that begins with a minus
-signed : (t : List ℕ) → 0 < length t → getD t 0 0 ≡ minus
+pub signed : (t : List ℕ) → 0 < length t → getD t 0 0 ≡ minus
     → (isMode t ≡ (isNumber (drop 1 t) && not (eqb (numberOf (drop 1 t)) 0) && leb (numberOf (drop 1 t)) modeBound))
     × (modeOf t ≡ negsuc (numberOf (drop 1 t) - 1))
 unfolding isMode modeOf
@@ -170,7 +179,7 @@ module _ (text : List ℕ) (some : 0 < length text) (m : getD text 0 0 ≡ minus
         sym (simp k (ap Mode.Value (signed text some m .1 ∙ ap (λ (y : ℕ). negsuc (y - 1)) x)))
 
 -- a text that begins with another byte
-plain : (t : List ℕ) → (getD t 0 0 ≡ minus → ⊥) → 0 < length t
+pub plain : (t : List ℕ) → (getD t 0 0 ≡ minus → ⊥) → 0 < length t
     → (isMode t ≡ (isNumber t && ltb (numberOf t) modeBound)) × (modeOf t ≡ pos (numberOf t))
 unfolding isMode modeOf
 plain [] n s = absurd (omega arith)

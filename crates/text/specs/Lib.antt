@@ -1,3 +1,4 @@
--- What the contracts of this crate say, in the order to read it.
+-- What the contracts of this crate say, in the order to read it, and texts in quotes.
 pub mod Text
 pub mod Parts
+pub mod Quoted
