@@ -28,7 +28,7 @@ returns : tie.Need-returns
 returns c =
     let a = c .before .before .before .before .args in
     let e = c .before .find .ensures ∙ ap (λ b. length (before space b)) (rest-part (a .start) (now (a .line))) in
-    sym (field-empty (now (a .line)) (a .start) (sym e ∙ c .if1 .taken))
+    sym (field-empty (now (a .line)) (a .start) (omega arith))
 
 add-t10 : tie.Need-add-t10
 add-t10 c =
@@ -43,7 +43,7 @@ returns-2 c =
     let a = c .before .before .before .before .before .args in
     let r = rest-part (a .start) (now (a .line)) in
     let e = c .before .before .find .ensures ∙ ap (λ b. length (before space b)) r in
-    sym (field-last (now (a .line)) (a .start) (λ z. c .before .if1 .left (e ∙ z)) (sym e ∙ c .if2 .taken ∙ ap length r))
+    sym (field-last (now (a .line)) (a .start) (λ z. omega arith) (sym e ∙ c .if2 .taken ∙ ap length r))
 
 returns-3 : tie.Need-returns-3
 returns-3 c =
@@ -51,7 +51,7 @@ returns-3 c =
     let r = rest-part (a .start) (now (a .line)) in
     let e = c .before .before .find .ensures ∙ ap (λ b. length (before space b)) r in
     ap (λ k. Field.Ends (a .start + k)) e
-    ∙ sym (field-ends (now (a .line)) (a .start) (λ z. c .before .if1 .left (e ∙ z)) (λ z. c .if2 .left (e ∙ z ∙ sym (ap length r))))
+    ∙ sym (field-ends (now (a .line)) (a .start) (λ z. omega arith) (λ z. c .if2 .left (e ∙ z ∙ sym (ap length r))))
 
 pub field-from-spec : {M : Type 1} → statement M
 field-from-spec =

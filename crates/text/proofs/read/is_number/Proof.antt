@@ -20,7 +20,7 @@ shared-slice-read-if3 : tie.Need-shared-slice-read-if3
 shared-slice-read-if3 c = search needs
 
 returns-3 : tie.Need-returns-3
-returns-3 c = sym (number-zero (now (c .before .before .before .before .before .args .text)) (omega arith) (c .if3 .taken))
+returns-3 c = sym (number-zero (now (c .before .before .before .before .before .args .text)) (omega arith) (omega arith))
 
 digits-alone-requires-2 : tie.Need-digits-alone-requires-2
 digits-alone-requires-2 c κs = search needs
@@ -28,7 +28,7 @@ digits-alone-requires-2 c κs = search needs
 returns-4 : tie.Need-returns-4
 returns-4 c =
     let t = now (c .before .before .before .before .before .before .args .text) in
-    c .digits-alone2 .ensures ∙ sym (number-more t (omega arith) (c .before .if3 .left))
+    c .digits-alone2 .ensures ∙ sym (number-more t (omega arith) (λ z. omega arith))
 
 pub is-number-spec : {M : Type 1} → statement M
 is-number-spec =

@@ -31,7 +31,7 @@ loop-holds c = filled-start maxDigits (c .args .number) (now (c .args .digits)) 
 sub-i-2 : tie.Need-sub-i-2 Inv-loop μ-loop
 sub-i-2 c =
     let l = c .before .loop in
-    filled-place maxDigits (c .before .before .args .number) (l .digits) (l .rest) (l .i) (omega arith) (l .inv) (c .loop-test .taken)
+    filled-place maxDigits (c .before .before .args .number) (l .digits) (l .rest) (l .i) (omega arith) (l .inv) (omega (arith, c .loop-test .taken))
 
 cast-digits-2 : tie.Need-cast-digits-2 Inv-loop μ-loop
 cast-digits-2 c = omega arith
@@ -48,7 +48,7 @@ loop-less c = omega (arith, c .loop-test .taken)
 loop-again : tie.Need-loop-again Inv-loop μ-loop
 loop-again c =
     let l = c .before .loop in
-    filled-next maxDigits (c .before .before .args .number) (l .digits) (l .rest) (l .i) (omega arith) (l .inv) (c .loop-test .taken)
+    filled-next maxDigits (c .before .before .args .number) (l .digits) (l .rest) (l .i) (omega arith) (l .inv) (omega (arith, c .loop-test .taken))
 
 same-length : tie.Need-same-length Inv-loop μ-loop
 same-length c = c .before .loop .inv .1 ∙ sym (c .before .before .pre .1)
