@@ -1,12 +1,13 @@
 -- What lists of checks come to, and the calls that they stand before.
 -- What carries it: a refusal is no answer, so that a pass breaks no rule, and a refusal is by a broken one.
-use Prim.Native.Nat.{ℕ}
+use Prim.Native.Nat.{ℕ, _<_}
 use mathlib.Core.Path.{_≡_, refl, sym, ap, _∙_}
 use mathlib.Core.Bool.{Bool, true, false, cond}
 use mathlib.Core.List.{List, [], _∷_, _++_}
 use native.Mathlib.Omega.{arith}
 use Rattle.outcome.specs.declared.Refusal.{Refusal}
-use Rattle.outcome.specs.Outcome.{Outcome, refused, answer, refusalOf, Check, verdict, alone, given, unless}
+use Rattle.outcome.specs.declared.Refusal.the-variants as Refusal
+use Rattle.outcome.specs.Outcome.{Outcome, refused, answer, ruleNumber, refusalOf, Check, verdict, alone, given, unless}
 
 -- ---- a refusal is no answer
 
@@ -93,3 +94,34 @@ unless-answer cs a b e = go (verdict cs) refl e
     go : (v : Outcome (Unit {0})) → verdict cs ≡ v → given v (answer a) ≡ answer b → (verdict cs ≡ answer tt) × (a ≡ b)
     go (refused k vs) p q = absurd (refused-apart k vs b q)
     go (answer tt) p q = (p, cc)
+
+-- ---- a rule's number has at most two digits
+
+pub number-small : (why : Refusal) → ruleNumber why < 100
+number-small Refusal.TooManySites = omega arith
+number-small Refusal.ListEndsInside = omega arith
+number-small Refusal.TooManyGenerators = omega arith
+number-small (Refusal.LengthMismatch a b) = omega arith
+number-small (Refusal.PermutationLength a b) = omega arith
+number-small (Refusal.TargetOutOfRange a b) = omega arith
+number-small (Refusal.DuplicateTarget a b) = omega arith
+number-small (Refusal.ZeroOrder a) = omega arith
+number-small (Refusal.PermutationOrderOverflow a) = omega arith
+number-small (Refusal.OrderMismatch a b c) = omega arith
+number-small (Refusal.NonCommuting a b) = omega arith
+number-small Refusal.GroupOrderOverflow = omega arith
+number-small Refusal.GroupOrderLimit = omega arith
+number-small Refusal.InvalidValue = omega arith
+number-small Refusal.WordLength = omega arith
+number-small Refusal.OtherSites = omega arith
+number-small Refusal.BitAboveSites = omega arith
+number-small Refusal.ModeCount = omega arith
+number-small Refusal.IndexRange = omega arith
+number-small Refusal.CounterLength = omega arith
+number-small Refusal.ListLength = omega arith
+number-small Refusal.ZeroSide = omega arith
+number-small Refusal.SidesTooLarge = omega arith
+number-small Refusal.TooManyLetters = omega arith
+number-small (Refusal.NotALetter a) = omega arith
+number-small Refusal.SheetLength = omega arith
+number-small Refusal.LineForm = omega arith

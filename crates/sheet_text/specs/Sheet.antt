@@ -23,16 +23,6 @@ tableNames =
     119 ∷ 111 ∷ 114 ∷ 100 ∷ 32 ∷ 114 ∷ 101 ∷ 112 ∷ 32 ∷ 105 ∷ 110 ∷ 100 ∷ 101 ∷ 120 ∷ 32 ∷ 111 ∷ 114 ∷ 98 ∷ 105 ∷ 116 ∷ 32
     ∷ 119 ∷ 101 ∷ 105 ∷ 103 ∷ 104 ∷ 116 ∷ 32 ∷ 107 ∷ 101 ∷ 101 ∷ 112 ∷ []
 
--- refused
-abbrev pub refusedName : List ℕ
-refusedName = 114 ∷ 101 ∷ 102 ∷ 117 ∷ 115 ∷ 101 ∷ 100 ∷ []
-
-abbrev pub oneText : List ℕ
-oneText = 49 ∷ []
-
-abbrev pub missing : List ℕ
-missing = 45 ∷ []
-
 -- ---- checks
 
 -- 30: a sheet of more than 65,536 bytes
@@ -43,26 +33,6 @@ abbrev pub sheetSize : List ℕ → Check
 sheetSize input = ruleAt Refusal.SheetLength (ltb maxSheet (length input)) 0
 
 -- ---- the table
-
--- fields with a space between them, and the line's end
-unfoldable pub joined : List (List ℕ) → List ℕ
-joined [] = lineEnd ∷ []
-joined (f ∷ []) = f ++ (lineEnd ∷ [])
-joined (f ∷ g ∷ fs) = f ++ (space ∷ joined (g ∷ fs))
-
--- the fields of a row: the word, its least word, the index that leads from there back to it, the orbit size, the weight, and 1 if the modes keep it;
--- a dropped word has no least word, index and orbit size, and 0
-abbrev pub rowFields : Word → Decision Row → List (List ℕ)
-rowFields w (kept r) = spell w ∷ spell (r .word) ∷ decimal (r .index) ∷ decimal (r .size) ∷ decimal (weight w) ∷ oneText ∷ []
-rowFields w dropped = spell w ∷ missing ∷ missing ∷ missing ∷ decimal (weight w) ∷ zeroText ∷ []
-
--- the row of a word under modes
-unfoldable pub row : List Generator → Word → List ℤ → List ℕ
-row gs w ks = joined (rowFields w (decision gs ks w))
-
--- the row of a value line
-unfoldable pub lineRow : ℕ → List Generator → List ℕ → List ℕ
-lineRow m gs line = row gs (readText (field 0 line)) (map modeOf (take m (drop 1 (fields line))))
 
 -- the rows of value lines; the last piece is no line
 unfoldable pub rows : ℕ → List Generator → List (List ℕ) → List ℕ
@@ -87,7 +57,7 @@ sheetOutcome input = unless (sheetSize input ∷ lineChecks (pieces lineEnd inpu
 -- a refused sheet prints its number and its line
 abbrev pub printed : Outcome (List ℕ) → List ℕ
 printed (refused number []) = joined (refusedName ∷ decimal number ∷ [])
-printed (refused number (line ∷ more)) = joined (refusedName ∷ decimal number ∷ decimal line ∷ [])
+printed (refused number (line ∷ more)) = refusalLine number line
 printed (answer text) = text
 
 -- what a sheet prints
@@ -125,4 +95,4 @@ listAfter text list o = orElse (λ _. put 0 text list) list o
 
 -- a list of this length suffices for any sheet
 abbrev pub maxTable : ℕ
-maxTable = 4 * maxSheet + 64
+maxTable = spread * maxSheet + 64

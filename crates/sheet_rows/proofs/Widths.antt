@@ -1,9 +1,9 @@
--- How long rows are: a row of n letters has at most 2 n + 28 bytes, and so at most four times those of its line.
--- What carries it: an index, an orbit size and a weight have at most 7 digits (`decimal-short`).
-use Prim.Native.Nat.{ℕ, suc, _+_, _-_, _*_, _/_, _≤_, _<_}
-use mathlib.Core.Path.{_≡_, refl, sym, ap, _∙_}
+-- How long rows are: a row of n letters has at most two words and the room of three numbers, and so at most `spread` times the bytes of its line.
+-- What carries it: an index, an orbit size and a weight have at most `maxDigits` digits (`number-short`).
+use Prim.Native.Nat.{ℕ, _+_, _*_, _≤_, _<_}
+use mathlib.Core.Path.{_≡_, _∙_}
 use mathlib.Core.Bool.{Bool, true, false, cond}
-use mathlib.Core.List.{List, [], _∷_, _++_, map}
+use mathlib.Core.List.{List, [], _∷_, map}
 use native.Mathlib.Nat.{div-le-self}
 use native.Mathlib.Omega.{arith}
 use lib.IntN.{ℤ}
@@ -17,40 +17,40 @@ use Rattle.action.specs.Orbit.{least, indexBack, fixing, orbitSize}
 use Rattle.action.specs.Sector.{keeps}
 use Rattle.action.proofs.Canonical.{least-length, back-below}
 use Rattle.permutation.specs.Limits.{maxOrder}
-use Rattle.text.specs.Text.{decimal, modeOf}
+use Rattle.text.specs.Text.{decimal, modeOf, maxWritten}
 use Rattle.text.proofs.Pieces.{four-parts}
-use Rattle.text.proofs.Decimals.{decimal-short}
-use Rattle.sheet_text.specs.Sheet.{zeroText, oneText, missing, fields, field, valueChecks, joined, row, lineRow}
-use Rattle.sheet_text.proofs.Rows.{weight-small, checked}
+use Rattle.sheet_lines.specs.Lines.{zeroText, fields, field, valueChecks}
+use Rattle.sheet_rows.specs.Rows.{oneText, missing, joined, row, lineRow, rowFields, numbersRoom, spread}
+use Rattle.sheet_rows.proofs.Rows.{weight-small, checked, number-short}
+use Rattle.momentum.specs.Calls.{decision, kept, dropped}
+use Rattle.pauli_word.specs.Limits.{maxSites}
 
 -- six fields in a line
 six : (a b c d e f : List ℕ) → length (joined (a ∷ b ∷ c ∷ d ∷ e ∷ f ∷ [])) ≡ length a + length b + length c + length d + length e + length f + 6
 unfolding joined
 six a b c d e f = simp length-append (omega arith)
 
-module _ {n : ℕ} {gs : List Generator} (valid : Valid n gs) (small : orderOf gs ≤ maxOrder) (w : Word) (long : length w ≡ n) (few : n ≤ 256) where
-  index-small : indexBack gs w < 10000000
+module _ {n : ℕ} {gs : List Generator} (valid : Valid n gs) (small : orderOf gs ≤ maxOrder) (w : Word) (long : length w ≡ n) (few : n ≤ maxSites) where
+  index-small : indexBack gs w < maxWritten
   index-small = omega (arith, back-below valid w)
 
-  size-small : orbitSize gs w < 10000000
+  size-small : orbitSize gs w < maxWritten
   unfolding orbitSize
   size-small = omega (arith, div-le-self (orderOf gs) (length (fixing gs w)))
 
-  weight-few : weight w < 10000000
+  weight-few : weight w < maxWritten
   weight-few = omega (arith, weight-small w)
 
-  pub row-short : (ks : List ℤ) → length (row gs w ks) ≤ 2 * n + 28
-  unfolding row
+  pub row-short : (ks : List ℤ) → length (row gs w ks) ≤ 2 * n + 1 + numbersRoom
+  unfolding row decision
   row-short ks = go (keeps gs ks w)
     where
       spelled : (v : Word) → length (spell v) ≡ length v
       spelled v = length-map v glyph
 
       go : (b : Bool)
-          → length (joined (cond b
-          (spell w ∷ spell (least gs w) ∷ decimal (indexBack gs w) ∷ decimal (orbitSize gs w) ∷ decimal (weight w) ∷ oneText ∷ [])
-          (spell w ∷ missing ∷ missing ∷ missing ∷ decimal (weight w) ∷ zeroText ∷ [])))
-          ≤ 2 * n + 28
+          → length (joined (rowFields w (cond b (kept (record { word = least gs w; index = indexBack gs w; size = orbitSize gs w })) dropped)))
+          ≤ 2 * n + 1 + numbersRoom
       go true =
           rw (six (spell w) (spell (least gs w)) (decimal (indexBack gs w)) (decimal (orbitSize gs w)) (decimal (weight w)) oneText)
           (omega (
@@ -58,18 +58,18 @@ module _ {n : ℕ} {gs : List Generator} (valid : Valid n gs) (small : orderOf g
             spelled w,
             spelled (least gs w),
             least-length valid w,
-            decimal-short (indexBack gs w) index-small,
-            decimal-short (orbitSize gs w) size-small,
-            decimal-short (weight w) weight-few,
+            number-short (indexBack gs w) index-small,
+            number-short (orbitSize gs w) size-small,
+            number-short (weight w) weight-few,
           ))
       go false =
           rw (six (spell w) missing missing missing (decimal (weight w)) zeroText)
-          (omega (arith, spelled w, decimal-short (weight w) weight-few))
+          (omega (arith, spelled w, number-short (weight w) weight-few))
 
 -- a value line that breaks no rule, in a group of order within the limit
-module _ {n : ℕ} {gs : List Generator} (valid : Valid n gs) (small : orderOf gs ≤ maxOrder) (few : n ≤ 256) (used : ℕ) (line : List ℕ)
+module _ {n : ℕ} {gs : List Generator} (valid : Valid n gs) (small : orderOf gs ≤ maxOrder) (few : n ≤ maxSites) (used : ℕ) (line : List ℕ)
     (fine : verdict (valueChecks used n line 0) ≡ answer tt) where
-  pub lineRow-short : length (lineRow used gs line) ≤ 4 * (length line + 1)
+  pub lineRow-short : length (lineRow used gs line) ≤ spread * (length line + 1)
   unfolding lineRow
   lineRow-short =
       let (four, modes, letters, long) = checked used n line fine in

@@ -1,4 +1,4 @@
--- `row::append_word` meets its contract: the text stands at the front of what spelling gives (`spelled-front`).
+-- `append_word` meets its contract: the text stands at the front of what spelling gives (`spelled-front`).
 use Prim.Native.Nat.{ℕ, _+_}
 use mathlib.Core.Path.{_≡_, ap, _∙_}
 use mathlib.Core.List.{List}
@@ -7,9 +7,9 @@ use borrow.Author.Needs.{needs}
 use denote.Ref.{now}
 use lib.ListN.{length}
 use Rattle.text.specs.Text.{put}
-use Rattle.sheet_text.proofs.Rows.{spelled-length, spelled-front}
-use Rattle.sheet_text.proofs.row.append_word.Statement.{statement}
-use Rattle.sheet_text.proofs.row.append_word.Tie as tie
+use Rattle.sheet_rows.proofs.Rows.{spelled-length, spelled-front}
+use Rattle.sheet_rows.proofs.append_word.Statement.{statement}
+use Rattle.sheet_rows.proofs.append_word.Tie as tie
 
 to-text-requires : tie.Need-to-text-requires
 to-text-requires c κs = search needs

@@ -3,7 +3,7 @@
 use Prim.Native.Nat.{ℕ, zero, suc, _+_, _-_, _*_, _≤_, _<_}
 use mathlib.Core.Path.{_≡_, refl, sym, ap, ap₂, subst, _∙_}
 use mathlib.Core.Bool.{Bool, true, false, _&&_, not, cond, and-eq-true-iff}
-use mathlib.Core.List.{List, [], _∷_, _++_, map}
+use mathlib.Core.List.{List, [], _∷_, _++_, map, append-assoc}
 use native.Mathlib.Nat.{div-le-self, sub-zero}
 use native.Mathlib.Omega.{arith}
 use lib.Dec.{eqb, ltb}
@@ -12,39 +12,40 @@ use lib.ListN.{length, getD, take, drop, length-append, length-map}
 use lib.Seq.{take-at, length-take-le}
 use borrow.Author.Tests.{eqb-true, not-false}
 use Rattle.outcome.specs.declared.Refusal.{Refusal}
-use Rattle.outcome.specs.declared.Refusal.the-variants.{TooManySites, WordLength, BitAboveSites}
-use Rattle.pauli_word.specs.declared.Weighed.{Weighed}
-use Rattle.pauli_word.specs.declared.Weighed.the-variants as Weighed
+use Rattle.outcome.specs.declared.Refusal.the-variants as Refusal
+use Rattle.outcome.specs.declared.Number.{Number}
+use Rattle.outcome.specs.declared.Number.the-variants as Number
+use Rattle.outcome.proofs.Outcomes.{refused-apart, verdict-fine, call-answers}
 use Rattle.pauli_word.specs.Limits.{maxSites, planeLength}
-use Rattle.outcome.specs.Outcome.{answer, verdict, orElse}
+use Rattle.outcome.specs.Outcome.{answer, verdict, orElse, outcomeOfNumber}
 use Rattle.pauli_word.specs.Word.{Letter, I, X, Y, Z, Word, letterWeight, weight}
-use Rattle.pauli_word.specs.Bytes.{decode, encode, AcceptedWord}
-use Rattle.pauli_word.specs.Text.{letter, glyph, lettersAlone, readText, spell}
-use Rattle.pauli_word.specs.Calls.{wordChecks, refusalOf, fromTextBytes, toTextOutcome, toTextBytes, weightOutcome, outcomeOfNumber}
+use Rattle.pauli_word.specs.Bytes.{AcceptedWord, lettersIn, bytesOf}
+use Rattle.pauli_word.specs.Text.{letter, glyph, lettersAlone, readText, spell, firstOther}
+use Rattle.pauli_word.specs.Calls.{wordChecks, fromTextBytes, toTextOutcome, toTextBytes, weightOutcome}
 use Rattle.pauli_word.proofs.Words.{decode-length, decode-encode, encode-accepted}
 use Rattle.pauli_word.proofs.Texts.{spell-readText, no-other}
-use Rattle.pauli_word.proofs.Checks.{accepted-passes, call-answers}
-use Rattle.action.specs.Lists.{every}
+use Rattle.action.specs.Lists.{every, sameNumbers}
 use Rattle.action.specs.Permutation.{Generator, Valid}
 use Rattle.action.specs.Index.{orderOf}
 use Rattle.action.specs.Orbit.{least, indexBack, orbitSize, fixing}
 use Rattle.action.specs.Sector.{keeps}
 use Rattle.action.proofs.Canonical.{least-length, back-below}
 use Rattle.permutation.specs.Limits.{maxOrder}
-use Rattle.permutation.proofs.Rules.{verdict-fine}
 use Rattle.momentum.specs.declared.inner.Placement.{Placement}
 use Rattle.momentum.specs.declared.inner.Placement.the-variants as Placement
-use Rattle.momentum.specs.Parts.{placement, placementWord}
-use Rattle.text.specs.Text.{lineEnd, space, sameText, isMode, modeOf, decimal, put}
+use Rattle.text.specs.Text.{lineEnd, space, isMode, modeOf, decimal, put, maxWritten, maxDigits}
 use Rattle.text.specs.Parts.{fourFields, fieldLength, fieldsRead}
 use Rattle.text.specs.declared.read.Fields.{Fields}
 use Rattle.text.specs.declared.read.Fields.the-variants as Fields
 use Rattle.text.proofs.Puts.{put-put, put-length}
 use Rattle.text.proofs.Decimals.{decimal-short}
 use Rattle.text.proofs.Pieces.{part, FourParts, four-parts, parts-read}
-use Rattle.sheet_text.specs.Sheet.{refusedName, zeroText, oneText, missing, fields, field, firstPass, atLine}
-use Rattle.sheet_text.specs.Sheet.{letterChecks, valueChecks, joined, row, lineRow}
-use Rattle.sheet_text.specs.Parts.{modeOrZero, rest}
+use Rattle.sheet_rows.specs.Rows.{refusedName, oneText, missing, joined, row, lineRow, numberRoom, numbersRoom, spread, refusalLine, rest}
+use Rattle.sheet_lines.specs.Lines.{zeroText, fields, field, firstPass, letterChecks, valueChecks, ruleAt}
+use Rattle.sheet_lines.specs.Parts.{modeOrZero}
+use Rattle.momentum.specs.Calls.{decision, kept, dropped, rowWord}
+use Rattle.momentum.specs.Parts.{placementOf}
+use Rattle.momentum.proofs.Traversals.{placed-dropped}
 
 -- ---- texts one after the other
 
@@ -88,10 +89,17 @@ pub text-writes :
     → Writes at text list place next
 text-writes e room = record { ends = e .0; made = e .1; room = room }
 
+-- a number that is written has few digits
+pub number-short : (k : ℕ) → k < maxWritten → length (decimal k) ≤ maxDigits
+number-short k h = decimal-short maxDigits k (omega arith) (omega arith) h
+
+pub two-short : (i j : ℕ) → i < maxWritten → j < maxWritten → length ((space ∷ decimal i) ++ (space ∷ decimal j)) ≤ 2 * numberRoom
+two-short i j hi hj = omega (arith, number-short i hi, number-short j hj, length-append (space ∷ decimal i) (space ∷ decimal j))
+
 pub number-writes :
     {at place number : ℕ} {list next : List ℕ} → (place ≡ at + length (space ∷ decimal number)) × (next ≡ put at (space ∷ decimal number) list)
-    → number < 10000000 → at + 8 ≤ length list → Writes at (space ∷ decimal number) list place next
-number-writes {at} {number} e small room = text-writes e (omega (arith, decimal-short number small))
+    → number < maxWritten → at + numberRoom ≤ length list → Writes at (space ∷ decimal number) list place next
+number-writes {at} {number} e small room = text-writes e (omega (arith, number-short number small))
 
 pub writes-as :
     {at place : ℕ} {s t list next : List ℕ} → Writes at s list place next → s ≡ t → (place ≡ at + length t) × (next ≡ put at t list)
@@ -108,12 +116,12 @@ unfolding rest
 end-length f = omega (arith, length-append f (lineEnd ∷ []))
 
 -- what follows a word has at most so many bytes
-pub dropped-short : (k : ℕ) → k < 10000000 → length (rest (missing ∷ missing ∷ missing ∷ decimal k ∷ zeroText ∷ [])) ≤ 17
+pub dropped-short : (k : ℕ) → k < maxWritten → length (rest (missing ∷ missing ∷ missing ∷ decimal k ∷ zeroText ∷ [])) ≤ numberRoom + 9
 dropped-short k h =
     let more : List (List ℕ) = decimal k ∷ zeroText ∷ [] in
     omega (
       arith,
-      decimal-short k h,
+      number-short k h,
       rest-length missing (missing ∷ missing ∷ more),
       rest-length missing (missing ∷ more),
       rest-length missing more,
@@ -122,13 +130,13 @@ dropped-short k h =
     )
 
 pub numbers-short :
-    (i j k : ℕ) → i < 10000000 → j < 10000000 → k < 10000000 → length (rest (decimal i ∷ decimal j ∷ decimal k ∷ oneText ∷ [])) ≤ 27
+    (i j k : ℕ) → i < maxWritten → j < maxWritten → k < maxWritten → length (rest (decimal i ∷ decimal j ∷ decimal k ∷ oneText ∷ [])) ≤ numbersRoom
 numbers-short i j k hi hj hk =
     omega (
       arith,
-      decimal-short i hi,
-      decimal-short j hj,
-      decimal-short k hk,
+      number-short i hi,
+      number-short j hj,
+      number-short k hk,
       rest-length (decimal i) (decimal j ∷ decimal k ∷ oneText ∷ []),
       rest-length (decimal j) (decimal k ∷ oneText ∷ []),
       rest-length (decimal k) (oneText ∷ []),
@@ -136,8 +144,8 @@ numbers-short i j k hi hj hk =
     )
 
 pub kept-short :
-    (f : List ℕ) (i j k : ℕ) → i < 10000000 → j < 10000000 → k < 10000000
-    → length (rest (f ∷ decimal i ∷ decimal j ∷ decimal k ∷ oneText ∷ [])) ≤ length f + 28
+    (f : List ℕ) (i j k : ℕ) → i < maxWritten → j < maxWritten → k < maxWritten
+    → length (rest (f ∷ decimal i ∷ decimal j ∷ decimal k ∷ oneText ∷ [])) ≤ length f + 1 + numbersRoom
 kept-short f i j k hi hj hk =
     omega (arith, numbers-short i j k hi hj hk, rest-length f (decimal i ∷ decimal j ∷ decimal k ∷ oneText ∷ []))
 
@@ -149,20 +157,19 @@ unfolding rest
 dropped-pieces k = refl
 
 pub numbers-pieces :
-    (i j k : ℕ) → (space ∷ decimal i) ++ ((space ∷ decimal j) ++ ((space ∷ decimal k) ++ (space ∷ 49 ∷ lineEnd ∷ [])))
+    (i j k : ℕ) → ((space ∷ decimal i) ++ (space ∷ decimal j)) ++ ((space ∷ decimal k) ++ (space ∷ 49 ∷ lineEnd ∷ []))
     ≡ rest (decimal i ∷ decimal j ∷ decimal k ∷ oneText ∷ [])
 unfolding rest
-numbers-pieces i j k = refl
+numbers-pieces i j k = append-assoc (space ∷ decimal i) (space ∷ decimal j) _
 
 pub kept-pieces : (f : List ℕ) (fs : List (List ℕ)) → (space ∷ []) ++ (f ++ rest fs) ≡ rest (f ∷ fs)
 unfolding rest
 kept-pieces f fs = refl
 
 pub refusal-pieces :
-    (rule line : ℕ) → refusedName ++ ((space ∷ decimal rule) ++ ((space ∷ decimal line) ++ (lineEnd ∷ [])))
-    ≡ joined (refusedName ∷ decimal rule ∷ decimal line ∷ [])
+    (number line : ℕ) → refusedName ++ (((space ∷ decimal number) ++ (space ∷ decimal line)) ++ (lineEnd ∷ [])) ≡ refusalLine number line
 unfolding joined
-refusal-pieces rule line = refl
+refusal-pieces number line = ap (λ (t : List ℕ). refusedName ++ t) (append-assoc (space ∷ decimal number) (space ∷ decimal line) (lineEnd ∷ []))
 
 pub joined-rest : (f : List ℕ) (fs : List (List ℕ)) → joined (f ∷ fs) ≡ f ++ rest fs
 unfolding joined rest
@@ -190,15 +197,10 @@ module _ (n : ℕ) (bytes : List ℕ) (ok : AcceptedWord n bytes) where
   unfolding weightOutcome
   weighs = call-answers (wordChecks n bytes) (answer (weight (lettersIn n bytes))) (accepted-passes n bytes ok)
 
-  never : (why : Refusal) (k : ℕ) → refusalOf why ≡ answer k → ⊥
-  never TooManySites k e = let z : _≡_ {A = ℕ} 0 1 = cc in omega arith
-  never WordLength k e = let z : _≡_ {A = ℕ} 0 1 = cc in omega arith
-  never BitAboveSites k e = let z : _≡_ {A = ℕ} 0 1 = cc in omega arith
+  pub not-refused : {r : Number} {why : Refusal} → outcomeOfNumber r ≡ weightOutcome n bytes → r ≡ Number.Refused why → ⊥
+  not-refused {r} {why} e f = refused-apart _ _ (weight (lettersIn n bytes)) (sym (ap outcomeOfNumber f) ∙ e ∙ weighs)
 
-  pub not-refused : {r : Weighed} {why : Refusal} → outcomeOfNumber r ≡ weightOutcome n bytes → r ≡ Weighed.Refused why → ⊥
-  not-refused {r} {why} e f = never why (weight (lettersIn n bytes)) (sym (ap outcomeOfNumber f) ∙ e ∙ weighs)
-
-  pub weighed : {r : Weighed} {k : ℕ} → outcomeOfNumber r ≡ weightOutcome n bytes → r ≡ Weighed.Weight k → k ≡ weight (lettersIn n bytes)
+  pub weighed : {r : Number} {k : ℕ} → outcomeOfNumber r ≡ weightOutcome n bytes → r ≡ Number.Value k → k ≡ weight (lettersIn n bytes)
   weighed {r} {k} e f = let g : answer k ≡ answer (weight (lettersIn n bytes)) = sym (ap outcomeOfNumber f) ∙ e ∙ weighs in cc
 
 -- a letter has two bits
@@ -229,11 +231,11 @@ module _ (n : ℕ) (text bytes : List ℕ) (alone : lettersAlone text ≡ true) 
   pub read-accepted : AcceptedWord n bytes
   read-accepted = rw (encoded, sym letters) (encode-accepted planeLength (readText text) short)
 
-  pub weight-few : weight (readText text) < 10000000
+  pub weight-few : weight (readText text) < maxWritten
   weight-few = omega (arith, weight-small (readText text), letters)
 
   pub read-word : lettersIn n bytes ≡ readText text
-  read-word = ap₂ (lettersIn) (sym letters) encoded ∙ decode-encode planeLength (readText text) short
+  read-word = ap₂ lettersIn (sym letters) encoded ∙ decode-encode planeLength (readText text) short
 
 -- ---- the row of a word
 
@@ -243,49 +245,51 @@ module _ (gs : List Generator) (ks : List ℤ) (text : List ℕ) (alone : letter
 
   -- without a least word
   pub row-dropped :
-      placement gs ks w ≡ Placement.Dropped → row gs w ks ≡ text ++ rest (missing ∷ missing ∷ missing ∷ decimal (weight w) ∷ zeroText ∷ [])
+      placementOf (decision gs ks w) ≡ Placement.Dropped
+      → row gs w ks ≡ text ++ rest (missing ∷ missing ∷ missing ∷ decimal (weight w) ∷ zeroText ∷ [])
   unfolding row
-  row-dropped e = go (keeps gs ks w) refl e
-    where
-      go :
-          (b : Bool) → keeps gs ks w ≡ b → cond b (Placement.Kept (indexBack gs w) (orbitSize gs w)) Placement.Dropped ≡ Placement.Dropped
-          → row gs w ks ≡ text ++ rest (missing ∷ missing ∷ missing ∷ decimal (weight w) ∷ zeroText ∷ [])
-      go true t h = let z : _≡_ {A = ℕ} 0 1 = cc in absurd (omega arith)
-      go false t h =
-          rw t (joined-rest (spell w) (missing ∷ missing ∷ missing ∷ decimal (weight w) ∷ zeroText ∷ [])
-          ∙ ap (λ (f : List ℕ). f ++ rest (missing ∷ missing ∷ missing ∷ decimal (weight w) ∷ zeroText ∷ [])) (spell-readText text alone))
+  row-dropped e =
+      let none : decision gs ks w ≡ dropped = placed-dropped (decision gs ks w) e in
+      rw none (joined-rest (spell w) (missing ∷ missing ∷ missing ∷ decimal (weight w) ∷ zeroText ∷ [])
+      ∙ ap (λ (f : List ℕ). f ++ rest (missing ∷ missing ∷ missing ∷ decimal (weight w) ∷ zeroText ∷ [])) (spell-readText text alone))
 
-  module _ {i size : ℕ} (e : placement gs ks w ≡ Placement.Kept i size) where
+  module _ {i size : ℕ} (e : placementOf (decision gs ks w) ≡ Placement.Kept i size) where
     -- where it stands
-    kept-is : (keeps gs ks w ≡ true) × (indexBack gs w ≡ i) × (orbitSize gs w ≡ size)
-    kept-is = go (keeps gs ks w) refl e
+    kept-is : (decision gs ks w ≡ kept (record { word = least gs w; index = i; size = size })) × (indexBack gs w ≡ i) × (orbitSize gs w ≡ size)
+    unfolding decision
+    kept-is = go (keeps gs ks w) e
       where
         go :
-            (b : Bool) → keeps gs ks w ≡ b → cond b (Placement.Kept (indexBack gs w) (orbitSize gs w)) Placement.Dropped ≡ Placement.Kept i size
-            → (keeps gs ks w ≡ true) × (indexBack gs w ≡ i) × (orbitSize gs w ≡ size)
-        go true t h = (t, cc, cc)
-        go false t h = let z : _≡_ {A = ℕ} 0 1 = cc in absurd (omega arith)
+            (b : Bool)
+            → placementOf (cond b (kept (record { word = least gs w; index = indexBack gs w; size = orbitSize gs w })) dropped) ≡ Placement.Kept i size
+            → (cond b (kept (record { word = least gs w; index = indexBack gs w; size = orbitSize gs w })) dropped
+            ≡ kept (record { word = least gs w; index = i; size = size }))
+            × (indexBack gs w ≡ i)
+            × (orbitSize gs w ≡ size)
+        go true h =
+            let x : indexBack gs w ≡ i = cc in
+            let y : orbitSize gs w ≡ size = cc in
+            (rw (x, y), x, y)
+        go false h = let z : _≡_ {A = ℕ} 0 1 = cc in absurd (omega arith)
 
     pub row-kept : row gs w ks ≡ text ++ rest (spell (least gs w) ∷ decimal i ∷ decimal size ∷ decimal (weight w) ∷ oneText ∷ [])
     unfolding row
     row-kept =
-        let (t, index, orbit) = kept-is in
-        rw (t, index, orbit) (joined-rest (spell w) (spell (least gs w) ∷ decimal i ∷ decimal size ∷ decimal (weight w) ∷ oneText ∷ [])
+        rw (kept-is .0) (joined-rest (spell w) (spell (least gs w) ∷ decimal i ∷ decimal size ∷ decimal (weight w) ∷ oneText ∷ [])
         ∙ ap (λ (f : List ℕ). f ++ rest (spell (least gs w) ∷ decimal i ∷ decimal size ∷ decimal (weight w) ∷ oneText ∷ [])) (spell-readText text alone))
 
     module _ {n : ℕ} (valid : Valid n gs) (long : length text ≡ n) (few : n ≤ maxSites) where
       -- the bytes of the least word are accepted, and its letters come back from them
-      pub kept-word : {bytes : List ℕ} → bytes ≡ placementWord gs ks w → AcceptedWord n bytes × (lettersIn n bytes ≡ least gs w)
+      pub kept-word : {bytes : List ℕ} → bytes ≡ rowWord (decision gs ks w) → AcceptedWord n bytes × (lettersIn n bytes ≡ least gs w)
       kept-word {bytes} m =
           let size : length (least gs w) ≡ n = least-length valid w ∙ length-map text letter ∙ long in
           let short : length (least gs w) ≤ 8 * planeLength = omega arith in
-          let (t, index, orbit) = kept-is in
-          let same : bytes ≡ bytesOf (least gs w) = m ∙ rw t refl in (
+          let same : bytes ≡ bytesOf (least gs w) = m ∙ ap rowWord (kept-is .0) in (
             rw (same, sym size) (encode-accepted planeLength (least gs w) short),
-            ap₂ (lettersIn) (sym size) same ∙ decode-encode planeLength (least gs w) short,
+            ap₂ lettersIn (sym size) same ∙ decode-encode planeLength (least gs w) short,
           )
 
-      pub kept-small : orderOf gs ≤ maxOrder → (i < 10000000) × (size < 10000000)
+      pub kept-small : orderOf gs ≤ maxOrder → (i < maxWritten) × (size < maxWritten)
       unfolding orbitSize
       kept-small small =
           let (t, index, orbit) = kept-is in
@@ -321,13 +325,13 @@ module _ (used sites : ℕ) (line : List ℕ) (fine : verdict (valueChecks used 
   checked =
       let f = field 0 line in
       let (a, more) =
-      verdict-fine (atLine 31 (not (fourFields line && firstPass isMode used (drop 1 (fields line)))) 0) (letterChecks sites f 0) fine
+      verdict-fine (ruleAt Refusal.LineForm (not (fourFields line && firstPass isMode used (drop 1 (fields line)))) 0) (letterChecks sites f 0) fine
       in
       let (b, last) =
-      verdict-fine (atLine 28 (ltb maxSites (length f)) 0) (atLine 29 (not (lettersAlone f)) 0 ∷ atLine 16 (not (eqb (length f) sites)) 0 ∷ []) more
+      verdict-fine (ruleAt Refusal.TooManyLetters (ltb maxSites (length f)) 0) (ruleAt (Refusal.NotALetter (firstOther f)) (not (lettersAlone f)) 0 ∷ ruleAt Refusal.OtherSites (not (eqb (length f) sites)) 0 ∷ []) more
       in
-      let (c, end) = verdict-fine (atLine 29 (not (lettersAlone f)) 0) (atLine 16 (not (eqb (length f) sites)) 0 ∷ []) last in
-      let (d, none) = verdict-fine (atLine 16 (not (eqb (length f) sites)) 0) [] end in
+      let (c, end) = verdict-fine (ruleAt (Refusal.NotALetter (firstOther f)) (not (lettersAlone f)) 0) (ruleAt Refusal.OtherSites (not (eqb (length f) sites)) 0 ∷ []) last in
+      let (d, none) = verdict-fine (ruleAt Refusal.OtherSites (not (eqb (length f) sites)) 0) [] end in
       let both = and-eq-true-iff (fourFields line) (firstPass isMode used (drop 1 (fields line))) .0 (not-false _ a) in
       (both .0, both .1, not-false (lettersAlone f) c, eqb-true (length f) sites (not-false (eqb (length f) sites) d))
 
@@ -361,8 +365,8 @@ module _ (used sites : ℕ) (line : List ℕ) (fine : verdict (valueChecks used 
     pub line-long : length first ≡ sites
     line-long = ap length (sym first-field) ∙ checked .3
 
-    -- the row fits where four times the line and its end fit
-    pub line-room : (at k : ℕ) → at + 4 * (length line + 1) ≤ k → at + (2 * length first + 28) ≤ k
+    -- the row fits where `spread` times the line and its end fit
+    pub line-room : (at k : ℕ) → at + spread * (length line + 1) ≤ k → at + (2 * length first + 1 + numbersRoom) ≤ k
     line-room at k h =
         let p = line-parts in
         omega (arith, length-take-le (a - 0) line (omega (arith, p .second, p .third, p .fourth)), p .second, p .third, p .fourth)
@@ -381,7 +385,7 @@ module _ (used sites : ℕ) (line : List ℕ) (fine : verdict (valueChecks used 
           in
           let texts : List (List ℕ) = drop 1 (fields line) in
           let passes : every isMode (take used texts) ≡ true =
-          and-eq-true-iff (every isMode (take used texts)) (every (sameText zeroText) (drop used texts)) .0 (checked .1) .0
+          and-eq-true-iff (every isMode (take used texts)) (every (sameNumbers zeroText) (drop used texts)) .0 (checked .1) .0
           in
           ap (λ (k : ℕ). take k (x ∷ y ∷ z ∷ [])) (sub-zero used)
           ∙ rw (ex, ey, ez) (modes-taken used _ _ _ few (ap (λ (ps : List (List ℕ)). every isMode (take used ps)) (sym e) ∙ passes))

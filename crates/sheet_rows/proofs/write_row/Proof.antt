@@ -1,4 +1,4 @@
--- `row::write_row` meets its contract: a line that breaks no rule has four fields (`line-parts`), and its row is that of its word and modes (`line-row`).
+-- `write_row` meets its contract: a line that breaks no rule has four fields (`line-parts`), and its row is that of its word and modes (`line-row`).
 use Prim.Native.Nat.{ℕ, _+_, _≤_}
 use mathlib.Core.Path.{_≡_, sym, ap, _∙_}
 use mathlib.Core.List.{List}
@@ -13,9 +13,9 @@ use Rattle.group.specs.Value.{generatorsOf}
 use Rattle.text.specs.Text.{put}
 use Rattle.text.specs.Parts.{fieldsRead}
 use Rattle.text.specs.declared.read.Fields.the-variants as Fields
-use Rattle.sheet_text.proofs.Rows.{line-not-other, line-parts, line-letters, line-long, line-room, three-taken, line-row}
-use Rattle.sheet_text.proofs.row.write_row.Statement.{statement}
-use Rattle.sheet_text.proofs.row.write_row.Tie as tie
+use Rattle.sheet_rows.proofs.Rows.{line-not-other, line-parts, line-letters, line-long, line-room, three-taken, line-row}
+use Rattle.sheet_rows.proofs.write_row.Statement.{statement}
+use Rattle.sheet_rows.proofs.write_row.Tie as tie
 
 -- the line, and where its fields end
 abbrev line : tie.After-a → List ℕ

@@ -1,17 +1,16 @@
--- `row::kept_row` meets its contract: a space, the least word and the numbers, one after the other (`writes-then`).
+-- `kept_row` meets its contract: a space, the least word and the numbers, one after the other (`writes-then`).
 use mathlib.Core.List.{[], _∷_}
 use mathlib.Core.Path.{ap, sym, _∙_}
 use Prim.Native.Nat.{ℕ, _+_}
 use native.Mathlib.Omega.{arith}
 use borrow.Author.Needs.{needs}
-use Rattle.pauli_word.specs.Limits.{planeLength}
-use Rattle.pauli_word.specs.Bytes.{decode}
 use Rattle.pauli_word.specs.Text.{spell}
 use Rattle.text.specs.Text.{decimal}
-use Rattle.sheet_text.specs.Sheet.{oneText}
-use Rattle.sheet_text.proofs.Rows.{writes-length, writes-then, text-writes, writes-as, spelled-length, numbers-short, kept-pieces}
-use Rattle.sheet_text.proofs.row.kept_row.Statement.{statement}
-use Rattle.sheet_text.proofs.row.kept_row.Tie as tie
+use Rattle.sheet_rows.specs.Rows.{oneText}
+use Rattle.sheet_rows.proofs.Rows.{writes-length, writes-then, text-writes, writes-as, spelled-length, numbers-short, kept-pieces}
+use Rattle.sheet_rows.proofs.kept_row.Statement.{statement}
+use Rattle.sheet_rows.proofs.kept_row.Tie as tie
+use Rattle.pauli_word.specs.Bytes.{lettersIn}
 
 slice-aggregate-append : tie.Need-slice-aggregate-append
 slice-aggregate-append c = search needs

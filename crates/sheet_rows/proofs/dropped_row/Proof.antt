@@ -1,4 +1,4 @@
--- `row::dropped_row` meets its contract: what is missing, the weight and the end, one after the other (`writes-then`).
+-- `dropped_row` meets its contract: what is missing, the weight and the end, one after the other (`writes-then`).
 use Prim.Native.Nat.{_+_, _≤_}
 use mathlib.Core.List.{[], _∷_}
 use native.Mathlib.Omega.{arith}
@@ -6,10 +6,9 @@ use borrow.Author.Needs.{needs}
 use denote.Ref.{now}
 use lib.ListN.{length}
 use Rattle.text.specs.Text.{space, decimal}
-use Rattle.text.proofs.Decimals.{decimal-short}
-use Rattle.sheet_text.proofs.Rows.{Writes, writes-room, writes-then, text-writes, number-writes, writes-as, dropped-pieces}
-use Rattle.sheet_text.proofs.row.dropped_row.Statement.{statement}
-use Rattle.sheet_text.proofs.row.dropped_row.Tie as tie
+use Rattle.sheet_rows.proofs.Rows.{Writes, writes-room, writes-then, text-writes, number-writes, writes-as, dropped-pieces, number-short}
+use Rattle.sheet_rows.proofs.dropped_row.Statement.{statement}
+use Rattle.sheet_rows.proofs.dropped_row.Tie as tie
 
 -- what is before the first text, and before the weight
 abbrev start : tie.After-append → tie.Start
@@ -34,7 +33,7 @@ weight-written c =
     let s = start (first c) in
     let room = missing-written (first c) .1 in
     let w = number-writes (c .append-number .ensures) (s .pre .0) (omega (arith, room)) in
-    (w, writes-room 8 3 w (omega (arith, decimal-short (s .args .weight) (s .pre .0))) (omega (arith, room)))
+    (w, writes-room 8 3 w (omega (arith, number-short (s .args .weight) (s .pre .0))) (omega (arith, room)))
 
 slice-aggregate-append : tie.Need-slice-aggregate-append
 slice-aggregate-append c = search needs

@@ -1,29 +1,41 @@
-// A row of the table, written into a list from a place on; the place after it. Whoever calls a function here owes its `requires`.
+// The lines that a sheet prints, each written into a list from a place on; the place after it. Nothing here is a buyer's call: whoever calls a function
+// here owes its `requires`.
 ghost use mathlib.Core.Path.{_≡_};
 ghost use mathlib.Core.Bool.{true};
-ghost use mathlib.Core.List.{[], _∷_};
+ghost use mathlib.Core.List.{[], _∷_, _++_};
 ghost use Prim.Native.Nat.{_+_, _*_, _≤_, _<_};
 ghost use lib.ListN.{length};
-ghost use Rattle.pauli_word.specs.Limits.{maxSites, planeLength};
-ghost use Rattle.pauli_word.specs.Word.{Word};
-ghost use Rattle.pauli_word.specs.Bytes.{decode, AcceptedWord};
-ghost use Rattle.outcome.specs.Outcome.{verdict, answer};
+ghost use Rattle.outcome.specs.Outcome.{verdict, answer, ruleNumber};
+ghost use Rattle.pauli_word.specs.Bytes.{lettersIn, AcceptedWord};
 ghost use Rattle.pauli_word.specs.Text.{lettersAlone, readText, spell};
 ghost use Rattle.group.specs.Value.{generatorsOf, AcceptedGroup};
-ghost use Rattle.text.specs.Text.{space, decimal, put};
-ghost use Rattle.sheet_text.specs.Parts.{rest};
-ghost use Rattle.sheet_text.specs.Sheet.{missing, zeroText, oneText, row as rowOf, lineRow, valueChecks};
+ghost use Rattle.text.specs.Text.{space, decimal, maxWritten, put};
+ghost use Rattle.sheet_lines.specs.Lines.{zeroText, valueChecks};
+ghost use Rattle.sheet_rows.specs.Rows.{missing, oneText, rest, refusalLine, row as rowOf, lineRow, numberRoom, numbersRoom, spread};
 use group::Group;
 use momentum::inner::Placement;
+use outcome::Number;
+use outcome::Refusal;
 use pauli_word::WORD_BYTES;
 use text::read::Fields;
+
+// The line of a sheet that breaks a rule.
+pub fn refusal_line(list: &mut [u8], why: Refusal, line: usize) -> usize
+    requires { ⌜ (line < maxWritten) × (2 * numberRoom + 8 ≤ length (now list)) ⌝ }
+    ensures place { λ r. ⌜ r ≡ length (refusalLine (ruleNumber why) line) ⌝ }
+    ensures list { λ _. ⌜ now (list .exit) ≡ put 0 (refusalLine (ruleNumber why) line) (now (list .entry)) ⌝ }
+{
+    let name = text::write::append(list, 0, b"refused");
+    let end = append_two(list, name, outcome::rule_number(why), line);
+    text::write::append(list, end, b"\n")
+}
 
 // The row of a line with a word and its modes that breaks no rule.
 pub fn write_row(group: Group, used: usize, line: &[u8], list: &mut [u8], at: usize) -> usize
     requires { ⌜ AcceptedGroup group ⌝ }
     requires { ⌜ (used ≡ group .generators) × (used ≤ 3) ⌝ }
     requires { ⌜ verdict (valueChecks used (group .sites) (now line) 0) ≡ answer tt ⌝ }
-    requires { ⌜ at + 4 * (length (now line) + 1) ≤ length (now list) ⌝ }
+    requires { ⌜ at + spread * (length (now line) + 1) ≤ length (now list) ⌝ }
     ensures place { λ r. ⌜ r ≡ at + length (lineRow used (generatorsOf group) (now (line .entry))) ⌝ }
     ensures list { λ _. ⌜ now (list .exit) ≡ put at (lineRow used (generatorsOf group) (now (line .entry))) (now (list .entry)) ⌝ }
 {
@@ -31,9 +43,9 @@ pub fn write_row(group: Group, used: usize, line: &[u8], list: &mut [u8], at: us
         return at;
     };
     let modes = [
-        crate::line::mode_or_zero(&line[a + 1..b]),
-        crate::line::mode_or_zero(&line[b + 1..c]),
-        crate::line::mode_or_zero(&line[c + 1..]),
+        sheet_lines::line::mode_or_zero(&line[a + 1..b]),
+        sheet_lines::line::mode_or_zero(&line[b + 1..c]),
+        sheet_lines::line::mode_or_zero(&line[c + 1..]),
     ];
     word_row(group, &modes[0..used], &line[0..a], list, at)
 }
@@ -43,7 +55,7 @@ pub fn word_row(group: Group, modes: &[i32], word: &[u8], list: &mut [u8], at: u
     requires { ⌜ AcceptedGroup group ⌝ }
     requires { ⌜ length (now modes) ≡ group .generators ⌝ }
     requires { ⌜ (lettersAlone (now word) ≡ true) × (length (now word) ≡ group .sites) ⌝ }
-    requires { ⌜ at + (2 * length (now word) + 28) ≤ length (now list) ⌝ }
+    requires { ⌜ at + (2 * length (now word) + 1 + numbersRoom) ≤ length (now list) ⌝ }
     ensures place { λ r. ⌜ r ≡ at + length (rowOf (generatorsOf group) (readText (now (word .entry))) (now (modes .entry))) ⌝ }
     ensures list { λ _. ⌜ now (list .exit) ≡ put at (rowOf (generatorsOf group) (readText (now (word .entry))) (now (modes .entry))) (now (list .entry)) ⌝ }
 {
@@ -63,7 +75,7 @@ pub fn word_row(group: Group, modes: &[i32], word: &[u8], list: &mut [u8], at: u
 
 // What follows the word of a dropped row.
 pub fn dropped_row(list: &mut [u8], at: usize, weight: usize) -> usize
-    requires { ⌜ (weight < 10000000) × (at + 17 ≤ length (now list)) ⌝ }
+    requires { ⌜ (weight < maxWritten) × (at + (numberRoom + 9) ≤ length (now list)) ⌝ }
     ensures place { λ r. ⌜ r ≡ at + length (rest (missing ∷ missing ∷ missing ∷ decimal weight ∷ zeroText ∷ [])) ⌝ }
     ensures list { λ _. ⌜ now (list .exit) ≡ put at (rest (missing ∷ missing ∷ missing ∷ decimal weight ∷ zeroText ∷ [])) (now (list .entry)) ⌝ }
 {
@@ -82,7 +94,7 @@ pub fn kept_row(
     size: usize,
     weight: usize,
 ) -> usize
-    requires { ⌜ (index < 10000000) × (size < 10000000) × (weight < 10000000) × (at + (sites + 28) ≤ length (now list)) ⌝ }
+    requires { ⌜ (index < maxWritten) × (size < maxWritten) × (weight < maxWritten) × (at + (sites + 1 + numbersRoom) ≤ length (now list)) ⌝ }
     requires { ⌜ AcceptedWord sites least ⌝ }
     ensures place { λ r. ⌜ r ≡ at + length (rest (spell (lettersIn sites least) ∷ decimal index ∷ decimal size ∷ decimal weight ∷ oneText ∷ [])) ⌝ }
     ensures list { λ _. ⌜ now (list .exit) ≡ put at (rest (spell (lettersIn sites least) ∷ decimal index ∷ decimal size ∷ decimal weight ∷ oneText ∷ [])) (now (list .entry)) ⌝ }
@@ -94,19 +106,28 @@ pub fn kept_row(
 
 // What follows the least word.
 pub fn append_numbers(list: &mut [u8], at: usize, index: usize, size: usize, weight: usize) -> usize
-    requires { ⌜ (index < 10000000) × (size < 10000000) × (weight < 10000000) × (at + 27 ≤ length (now list)) ⌝ }
+    requires { ⌜ (index < maxWritten) × (size < maxWritten) × (weight < maxWritten) × (at + numbersRoom ≤ length (now list)) ⌝ }
     ensures place { λ r. ⌜ r ≡ at + length (rest (decimal index ∷ decimal size ∷ decimal weight ∷ oneText ∷ [])) ⌝ }
     ensures list { λ _. ⌜ now (list .exit) ≡ put at (rest (decimal index ∷ decimal size ∷ decimal weight ∷ oneText ∷ [])) (now (list .entry)) ⌝ }
 {
-    let a = append_number(list, at, index);
-    let b = append_number(list, a, size);
-    let c = append_number(list, b, weight);
-    text::write::append(list, c, b" 1\n")
+    let a = append_two(list, at, index, size);
+    let b = append_number(list, a, weight);
+    text::write::append(list, b, b" 1\n")
+}
+
+// Two numbers, each after a space.
+pub fn append_two(list: &mut [u8], at: usize, first: usize, second: usize) -> usize
+    requires { ⌜ (first < maxWritten) × (second < maxWritten) × (at + 2 * numberRoom ≤ length (now list)) ⌝ }
+    ensures place { λ r. ⌜ r ≡ at + length ((space ∷ decimal first) ++ (space ∷ decimal second)) ⌝ }
+    ensures list { λ _. ⌜ now (list .exit) ≡ put at ((space ∷ decimal first) ++ (space ∷ decimal second)) (now (list .entry)) ⌝ }
+{
+    let a = append_number(list, at, first);
+    append_number(list, a, second)
 }
 
 // A space and a number.
 pub fn append_number(list: &mut [u8], at: usize, number: usize) -> usize
-    requires { ⌜ (number < 10000000) × (at + 8 ≤ length (now list)) ⌝ }
+    requires { ⌜ (number < maxWritten) × (at + numberRoom ≤ length (now list)) ⌝ }
     ensures place { λ r. ⌜ r ≡ at + length (space ∷ decimal number) ⌝ }
     ensures list { λ _. ⌜ now (list .exit) ≡ put at (space ∷ decimal number) (now (list .entry)) ⌝ }
 {

@@ -1,4 +1,4 @@
--- `row::word_row` meets its contract: the text, and after it what the placement says (`row-dropped`, `row-kept`), one after the other (`writes-then`).
+-- `word_row` meets its contract: the text, and after it what the placement says (`row-dropped`, `row-kept`), one after the other (`writes-then`).
 use Prim.Native.Nat.{ℕ, _+_, _≤_, _<_}
 use mathlib.Core.Path.{_≡_, sym, ap, ap₂, _∙_}
 use mathlib.Core.List.{List, [], _∷_, _++_}
@@ -7,9 +7,9 @@ use borrow.Author.Needs.{needs}
 use borrow.Author.Tests.{leb-true}
 use denote.Ref.{now}
 use lib.ListN.{length}
-use Rattle.pauli_word.specs.Limits.{maxSites, planeLength}
+use Rattle.pauli_word.specs.Limits.{maxSites}
 use Rattle.pauli_word.specs.Word.{Word, weight}
-use Rattle.pauli_word.specs.Bytes.{decode, AcceptedWord}
+use Rattle.pauli_word.specs.Bytes.{AcceptedWord, lettersIn}
 use Rattle.pauli_word.specs.Text.{readText, spell}
 use Rattle.action.specs.Permutation.{Generator, Valid}
 use Rattle.action.specs.Index.{orderOf}
@@ -19,13 +19,13 @@ use Rattle.group.specs.Value.{generatorsOf}
 use Rattle.group.proofs.Accepted.{accepted-tables}
 use Rattle.momentum.specs.declared.inner.Placement.the-variants as Placement
 use Rattle.momentum.specs.Parts.{placement, placementWord}
-use Rattle.text.specs.Text.{decimal}
-use Rattle.sheet_text.specs.Sheet.{missing, zeroText, oneText}
+use Rattle.text.specs.Text.{decimal, maxWritten}
+use Rattle.sheet_rows.specs.Rows.{missing, oneText}
+use Rattle.sheet_lines.specs.Lines.{zeroText}
 use Rattle.sheet_text.specs.Parts.{rest}
-use Rattle.sheet_text.proofs.Rows.{Writes, writes-length, writes-then, text-writes, writes-as, dropped-short, kept-short, spelled-length}
-use Rattle.sheet_text.proofs.Rows.{not-refused, weighed, weight-few, read-accepted, read-word, row-dropped, row-kept, kept-word, kept-small}
-use Rattle.sheet_text.proofs.row.word_row.Statement.{statement}
-use Rattle.sheet_text.proofs.row.word_row.Tie as tie
+use Rattle.sheet_rows.proofs.Rows.{Writes, writes-length, writes-then, text-writes, writes-as, dropped-short, kept-short, spelled-length, not-refused, weighed, weight-few, read-accepted, read-word, row-dropped, row-kept, kept-word, kept-small}
+use Rattle.sheet_rows.proofs.word_row.Statement.{statement}
+use Rattle.sheet_rows.proofs.word_row.Tie as tie
 
 -- what is before the text is read, the weight told, the text appended, the word placed, and the placement told
 abbrev start : tie.After-from-text → tie.Start
@@ -75,7 +75,7 @@ module _ (c : tie.After-from-text) where
   letters : lettersIn (sites s) (c .from-text .result .word) ≡ readText (text s)
   letters = read-word (sites s) (text s) _ (s .pre .1 .1 .0 .0) (s .pre .1 .1 .0 .1) (few s) (c .from-text .ensures .1)
 
-  light : weight (readText (text s)) < 10000000
+  light : weight (readText (text s)) < maxWritten
   light = weight-few (sites s) (text s) _ (s .pre .1 .1 .0 .0) (s .pre .1 .1 .0 .1) (few s) (c .from-text .ensures .1)
 
 -- its weight
@@ -85,7 +85,7 @@ weight-is c =
     weighed (sites (start f)) (f .from-text .result .word) (accepted f) (c .before .before .weight .ensures) (c .weight2 .given .1)
     ∙ ap weight (letters f)
 
-weight-below : (c : tie.After-weight2) → c .weight2 .given .0 .0 < 10000000
+weight-below : (c : tie.After-weight2) → c .weight2 .given .0 .0 < maxWritten
 weight-below c = omega (arith, weight-is c, light (reading c))
 
 -- the text, and the room that is left
@@ -121,7 +121,7 @@ module _ (c : tie.After-answer) where
   found : placement (gs o) (now (o .args .modes)) (readText (text o)) ≡ Placement.Kept index size
   found = placed p ∙ c .answer .given .1
 
-  small : (index < 10000000) × (size < 10000000)
+  small : (index < maxWritten) × (size < maxWritten)
   small =
       let (valid, below) = sound o in
       kept-small (gs o) (now (o .args .modes)) (text o) (o .pre .1 .1 .0 .0) found valid (o .pre .1 .1 .0 .1) (few o) below
