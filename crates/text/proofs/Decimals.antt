@@ -10,7 +10,7 @@ use lib.ListN.{length, getD, set, take, drop, length-append, length-drop, length
 use lib.Seq.{drop-cons, drop-set-lt, getD-set-same}
 use borrow.Author.Tests.{lt-ltb, le-ltb}
 use Rattle.pauli_word.proofs.Words.{rest-part}
-use Rattle.text.specs.Text.{zeroDigit, digitsOf, wideDigits, decimal}
+use Rattle.text.specs.Text.{zeroDigit, digitsOf, wideDigits, decimal, maxDigits, maxWritten}
 
 pub digits-one : (f n : ℕ) → n < 10 → digitsOf (suc f) n ≡ (zeroDigit + n) ∷ []
 unfolding digitsOf
@@ -54,6 +54,9 @@ decimal-digits (suc f) n some wide h = digits-fit f (wideDigits - 1) n (omega ar
 
 pub decimal-short : (d n : ℕ) → 0 < d → d ≤ wideDigits → n < 10 ^ d → length (decimal n) ≤ d
 decimal-short d n some wide h = rw (decimal-digits d n some wide h) (digits-most d n)
+
+pub written-short : (n : ℕ) → n < maxWritten → length (decimal n) ≤ maxDigits
+written-short n h = decimal-short maxDigits n (omega arith) (omega arith) h
 
 pub decimal-most : (n : ℕ) → length (decimal n) ≤ wideDigits
 unfolding decimal

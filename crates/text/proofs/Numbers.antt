@@ -2,7 +2,7 @@
 -- What carries it: reading on from a number never comes below it, so that above the cap nothing changes any more (`readOn-capped`).
 use Prim.Native.Nat.{ℕ, zero, suc, _+_, _-_, _*_, _≤_, _<_, min}
 use mathlib.Core.Path.{_≡_, refl, sym, ap, _∙_}
-use mathlib.Core.Bool.{Bool, true, false, _&&_, not}
+use mathlib.Core.Bool.{Bool, true, false, _&&_, not, and-true, and-false, and-assoc}
 use mathlib.Core.List.{List, [], _∷_, _++_}
 use native.Mathlib.Nat.{le-trans, min-eq-left, min-eq-right}
 use native.Mathlib.Numerals.{add-one}
@@ -40,11 +40,7 @@ every-end p text i h = simp (drop-of-length-le text h)
 pub every-append : {A : Type 0} (p : A → Bool) (xs ys : List A) → every p (xs ++ ys) ≡ (every p xs && every p ys)
 unfolding every
 every-append p [] ys = refl
-every-append p (x ∷ xs) ys = ap (λ (t : Bool). p x && t) (every-append p xs ys) ∙ and-assoc (p x) (every p xs) (every p ys)
-  where
-    and-assoc : (t u v : Bool) → (t && (u && v)) ≡ ((t && u) && v)
-    and-assoc true u v = refl
-    and-assoc false u v = refl
+every-append p (x ∷ xs) ys = ap (λ (t : Bool). p x && t) (every-append p xs ys) ∙ sym (and-assoc (p x) (every p xs) (every p ys))
 
 pub digit-below : (b : ℕ) → b < zeroDigit → isDigit b ≡ false
 digit-below b h = simp (lt-leb zeroDigit b h)
@@ -65,34 +61,20 @@ number-none (b ∷ bs) h = absurd (omega arith)
 pub number-one : (text : List ℕ) → length text ≡ 1 → isNumber text ≡ every isDigit text
 unfolding isNumber every
 number-one [] h = absurd (omega arith)
-number-one (b ∷ []) h = and-true (isDigit b)
-  where
-    and-true : (t : Bool) → t ≡ (t && true)
-    and-true true = refl
-    and-true false = refl
+number-one (b ∷ []) h = sym (and-true (isDigit b))
 number-one (b ∷ c ∷ bs) h = absurd (omega arith)
-
-and-not : (t u : Bool) → (t && not true && u) ≡ false
-and-not true u = refl
-and-not false u = refl
-
-and-skip : (t u : Bool) → (t && not false && u) ≡ (t && u)
-and-skip true u = refl
-and-skip false u = refl
 
 pub number-zero : (text : List ℕ) → 1 < length text → getD text 0 0 ≡ zeroDigit → isNumber text ≡ false
 unfolding isNumber
 number-zero [] l e = absurd (omega arith)
 number-zero (b ∷ []) l e = absurd (omega arith)
-number-zero (b ∷ c ∷ bs) l e =
-    ap (λ (t : Bool). isDigit b && not t && every isDigit (c ∷ bs)) (eq-eqb b zeroDigit e) ∙ and-not (isDigit b) (every isDigit (c ∷ bs))
+number-zero (b ∷ c ∷ bs) l e = simp (eq-eqb b zeroDigit e, and-false)
 
 pub number-more : (text : List ℕ) → 1 < length text → (getD text 0 0 ≡ zeroDigit → ⊥) → isNumber text ≡ every isDigit text
 unfolding isNumber every
 number-more [] l n = absurd (omega arith)
 number-more (b ∷ []) l n = absurd (omega arith)
-number-more (b ∷ c ∷ bs) l n =
-    ap (λ (t : Bool). isDigit b && not t && every isDigit (c ∷ bs)) (ne-eqb b zeroDigit n) ∙ and-skip (isDigit b) (every isDigit (c ∷ bs))
+number-more (b ∷ c ∷ bs) l n = simp (ne-eqb b zeroDigit n, and-true)
 
 -- ---- numbers up to the cap
 
@@ -139,10 +121,6 @@ pub mode-none : (text : List ℕ) → length text ≡ 0 → modeRead text ≡ Mo
 unfolding isMode
 mode-none [] h = refl
 mode-none (b ∷ bs) h = absurd (omega arith)
-
-and-false : (t : Bool) → (t && false) ≡ false
-and-false true = refl
-and-false false = refl
 
 -- a text that begins with a minus
 pub signed : (t : List ℕ) → 0 < length t → getD t 0 0 ≡ minus

@@ -3,7 +3,7 @@
 use Prim.Native.Nat.{ℕ, suc, _+_, _-_, _≤_, _<_}
 use mathlib.Core.Path.{_≡_, refl, sym, ap, subst, _∙_}
 use mathlib.Core.Logic.{_⊎_, inl, inr}
-use mathlib.Core.Bool.{Bool, true, false, _&&_, not, cond, false≢true, and-eq-true-iff}
+use mathlib.Core.Bool.{Bool, true, false, _&&_, not, cond, false≢true, and-eq-true-iff, and-false}
 use mathlib.Core.List.{List, [], _∷_}
 use native.Mathlib.Nat.{eq-or-lt-of-le, le-of-suc-le-suc}
 use native.Mathlib.Numerals.{add-one}
@@ -299,10 +299,6 @@ four-parts line h =
 -- n fields from a place on, none of them empty
 abbrev Fields-from : List ℕ → ℕ → ℕ → Bool
 Fields-from line n start = eqb (length (pieces space (drop start line))) n && every nonEmpty (pieces space (drop start line))
-
-and-false : (t : Bool) → (t && false) ≡ false
-and-false true = refl
-and-false false = refl
 
 first-empty : (n : ℕ) (p : List ℕ) (ps : List (List ℕ)) → length p ≡ 0 → (eqb (length (p ∷ ps)) n && every nonEmpty (p ∷ ps)) ≡ false
 unfolding every
