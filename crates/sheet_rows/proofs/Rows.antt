@@ -23,6 +23,7 @@ use Rattle.pauli_word.specs.Bytes.{AcceptedWord, lettersIn, bytesOf}
 use Rattle.pauli_word.specs.Text.{letter, glyph, lettersAlone, readText, spell, firstOther}
 use Rattle.pauli_word.specs.Calls.{wordChecks, fromTextBytes, toTextOutcome, toTextBytes, weightOutcome}
 use Rattle.pauli_word.proofs.Words.{decode-length, decode-encode, encode-accepted}
+use Rattle.pauli_word.proofs.Checks.{accepted-passes}
 use Rattle.pauli_word.proofs.Texts.{spell-readText, no-other}
 use Rattle.action.specs.Lists.{every, sameNumbers}
 use Rattle.action.specs.Permutation.{Generator, Valid}
@@ -38,12 +39,12 @@ use Rattle.text.specs.Parts.{fourFields, fieldLength, fieldsRead}
 use Rattle.text.specs.declared.read.Fields.{Fields}
 use Rattle.text.specs.declared.read.Fields.the-variants as Fields
 use Rattle.text.proofs.Puts.{put-put, put-length}
-use Rattle.text.proofs.Decimals.{decimal-short}
+use Rattle.text.proofs.Decimals.{written-short}
 use Rattle.text.proofs.Pieces.{part, FourParts, four-parts, parts-read}
 use Rattle.sheet_rows.specs.Rows.{refusedName, oneText, missing, joined, row, lineRow, numberRoom, numbersRoom, spread, refusalLine, rest}
 use Rattle.sheet_lines.specs.Lines.{zeroText, fields, field, firstPass, letterChecks, valueChecks, ruleAt}
 use Rattle.sheet_lines.specs.Parts.{modeOrZero}
-use Rattle.momentum.specs.Calls.{decision, kept, dropped, rowWord}
+use Rattle.momentum.specs.Calls.{Row, decision, kept, dropped, rowWord}
 use Rattle.momentum.specs.Parts.{placementOf}
 use Rattle.momentum.proofs.Traversals.{placed-dropped}
 
@@ -89,17 +90,13 @@ pub text-writes :
     → Writes at text list place next
 text-writes e room = record { ends = e .0; made = e .1; room = room }
 
--- a number that is written has few digits
-pub number-short : (k : ℕ) → k < maxWritten → length (decimal k) ≤ maxDigits
-number-short k h = decimal-short maxDigits k (omega arith) (omega arith) h
-
 pub two-short : (i j : ℕ) → i < maxWritten → j < maxWritten → length ((space ∷ decimal i) ++ (space ∷ decimal j)) ≤ 2 * numberRoom
-two-short i j hi hj = omega (arith, number-short i hi, number-short j hj, length-append (space ∷ decimal i) (space ∷ decimal j))
+two-short i j hi hj = omega (arith, written-short i hi, written-short j hj, length-append (space ∷ decimal i) (space ∷ decimal j))
 
 pub number-writes :
     {at place number : ℕ} {list next : List ℕ} → (place ≡ at + length (space ∷ decimal number)) × (next ≡ put at (space ∷ decimal number) list)
     → number < maxWritten → at + numberRoom ≤ length list → Writes at (space ∷ decimal number) list place next
-number-writes {at} {number} e small room = text-writes e (omega (arith, number-short number small))
+number-writes {at} {number} e small room = text-writes e (omega (arith, written-short number small))
 
 pub writes-as :
     {at place : ℕ} {s t list next : List ℕ} → Writes at s list place next → s ≡ t → (place ≡ at + length t) × (next ≡ put at t list)
@@ -121,7 +118,7 @@ dropped-short k h =
     let more : List (List ℕ) = decimal k ∷ zeroText ∷ [] in
     omega (
       arith,
-      number-short k h,
+      written-short k h,
       rest-length missing (missing ∷ missing ∷ more),
       rest-length missing (missing ∷ more),
       rest-length missing more,
@@ -134,9 +131,9 @@ pub numbers-short :
 numbers-short i j k hi hj hk =
     omega (
       arith,
-      number-short i hi,
-      number-short j hj,
-      number-short k hk,
+      written-short i hi,
+      written-short j hj,
+      written-short k hk,
       rest-length (decimal i) (decimal j ∷ decimal k ∷ oneText ∷ []),
       rest-length (decimal j) (decimal k ∷ oneText ∷ []),
       rest-length (decimal k) (oneText ∷ []),
@@ -253,23 +250,23 @@ module _ (gs : List Generator) (ks : List ℤ) (text : List ℕ) (alone : letter
       rw none (joined-rest (spell w) (missing ∷ missing ∷ missing ∷ decimal (weight w) ∷ zeroText ∷ [])
       ∙ ap (λ (f : List ℕ). f ++ rest (missing ∷ missing ∷ missing ∷ decimal (weight w) ∷ zeroText ∷ [])) (spell-readText text alone))
 
+  -- what goes with a kept word, by its numbers
+  abbrev found : ℕ → ℕ → Row
+  found i size = record { word = least gs w; index = i; size = size }
+
   module _ {i size : ℕ} (e : placementOf (decision gs ks w) ≡ Placement.Kept i size) where
     -- where it stands
-    kept-is : (decision gs ks w ≡ kept (record { word = least gs w; index = i; size = size })) × (indexBack gs w ≡ i) × (orbitSize gs w ≡ size)
+    kept-is : (decision gs ks w ≡ kept (found i size)) × (indexBack gs w ≡ i) × (orbitSize gs w ≡ size)
     unfolding decision
     kept-is = go (keeps gs ks w) e
       where
         go :
-            (b : Bool)
-            → placementOf (cond b (kept (record { word = least gs w; index = indexBack gs w; size = orbitSize gs w })) dropped) ≡ Placement.Kept i size
-            → (cond b (kept (record { word = least gs w; index = indexBack gs w; size = orbitSize gs w })) dropped
-            ≡ kept (record { word = least gs w; index = i; size = size }))
-            × (indexBack gs w ≡ i)
-            × (orbitSize gs w ≡ size)
+            (b : Bool) → placementOf (cond b (kept (found (indexBack gs w) (orbitSize gs w))) dropped) ≡ Placement.Kept i size
+            → (cond b (kept (found (indexBack gs w) (orbitSize gs w))) dropped ≡ kept (found i size)) × (indexBack gs w ≡ i) × (orbitSize gs w ≡ size)
         go true h =
             let x : indexBack gs w ≡ i = cc in
             let y : orbitSize gs w ≡ size = cc in
-            (rw (x, y), x, y)
+            (ap₂ (λ (j k : ℕ). kept (found j k)) x y, x, y)
         go false h = let z : _≡_ {A = ℕ} 0 1 = cc in absurd (omega arith)
 
     pub row-kept : row gs w ks ≡ text ++ rest (spell (least gs w) ∷ decimal i ∷ decimal size ∷ decimal (weight w) ∷ oneText ∷ [])

@@ -1,5 +1,5 @@
 -- How long rows are: a row of n letters has at most two words and the room of three numbers, and so at most `spread` times the bytes of its line.
--- What carries it: an index, an orbit size and a weight have at most `maxDigits` digits (`number-short`).
+-- What carries it: an index, an orbit size and a weight have at most `maxDigits` digits (`written-short`).
 use Prim.Native.Nat.{ℕ, _+_, _*_, _≤_, _<_}
 use mathlib.Core.Path.{_≡_, _∙_}
 use mathlib.Core.Bool.{Bool, true, false, cond}
@@ -21,8 +21,9 @@ use Rattle.text.specs.Text.{decimal, modeOf, maxWritten}
 use Rattle.text.proofs.Pieces.{four-parts}
 use Rattle.sheet_lines.specs.Lines.{zeroText, fields, field, valueChecks}
 use Rattle.sheet_rows.specs.Rows.{oneText, missing, joined, row, lineRow, rowFields, numbersRoom, spread}
-use Rattle.sheet_rows.proofs.Rows.{weight-small, checked, number-short}
-use Rattle.momentum.specs.Calls.{decision, kept, dropped}
+use Rattle.sheet_rows.proofs.Rows.{weight-small, checked}
+use Rattle.text.proofs.Decimals.{written-short}
+use Rattle.momentum.specs.Calls.{Row, decision, kept, dropped}
 use Rattle.pauli_word.specs.Limits.{maxSites}
 
 -- six fields in a line
@@ -48,9 +49,10 @@ module _ {n : ℕ} {gs : List Generator} (valid : Valid n gs) (small : orderOf g
       spelled : (v : Word) → length (spell v) ≡ length v
       spelled v = length-map v glyph
 
-      go : (b : Bool)
-          → length (joined (rowFields w (cond b (kept (record { word = least gs w; index = indexBack gs w; size = orbitSize gs w })) dropped)))
-          ≤ 2 * n + 1 + numbersRoom
+      found : Row
+      found = record { word = least gs w; index = indexBack gs w; size = orbitSize gs w }
+
+      go : (b : Bool) → length (joined (rowFields w (cond b (kept found) dropped))) ≤ 2 * n + 1 + numbersRoom
       go true =
           rw (six (spell w) (spell (least gs w)) (decimal (indexBack gs w)) (decimal (orbitSize gs w)) (decimal (weight w)) oneText)
           (omega (
@@ -58,13 +60,13 @@ module _ {n : ℕ} {gs : List Generator} (valid : Valid n gs) (small : orderOf g
             spelled w,
             spelled (least gs w),
             least-length valid w,
-            number-short (indexBack gs w) index-small,
-            number-short (orbitSize gs w) size-small,
-            number-short (weight w) weight-few,
+            written-short (indexBack gs w) index-small,
+            written-short (orbitSize gs w) size-small,
+            written-short (weight w) weight-few,
           ))
       go false =
           rw (six (spell w) missing missing missing (decimal (weight w)) zeroText)
-          (omega (arith, spelled w, number-short (weight w) weight-few))
+          (omega (arith, spelled w, written-short (weight w) weight-few))
 
 -- a value line that breaks no rule, in a group of order within the limit
 module _ {n : ℕ} {gs : List Generator} (valid : Valid n gs) (small : orderOf gs ≤ maxOrder) (few : n ≤ maxSites) (used : ℕ) (line : List ℕ)

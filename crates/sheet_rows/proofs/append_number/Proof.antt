@@ -2,7 +2,8 @@
 use mathlib.Core.Path.{refl}
 use native.Mathlib.Omega.{arith}
 use borrow.Author.Needs.{needs}
-use Rattle.sheet_rows.proofs.Rows.{writes-length, writes-then, text-writes, writes-as, number-short}
+use Rattle.text.proofs.Decimals.{written-short}
+use Rattle.sheet_rows.proofs.Rows.{writes-length, writes-then, text-writes, writes-as}
 use Rattle.sheet_rows.proofs.append_number.Statement.{statement}
 use Rattle.sheet_rows.proofs.append_number.Tie as tie
 
@@ -21,7 +22,7 @@ same-length c = search needs
 returns : tie.Need-returns
 returns c =
     let s = c .before .before .before .before .before .before .before .before .before .before in
-    let short = number-short (s .args .number) (s .pre .0) in
+    let short = written-short (s .args .number) (s .pre .0) in
     let first = text-writes (c .before .before .before .before .before .before .append .ensures) (omega (arith, s .pre .1)) in
     let second = text-writes (c .before .before .append-decimal .ensures) (omega (arith, short, s .pre .1, first .ends, writes-length first)) in
     writes-as (writes-then first second) refl

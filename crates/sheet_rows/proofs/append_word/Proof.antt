@@ -6,6 +6,7 @@ use native.Mathlib.Omega.{arith}
 use borrow.Author.Needs.{needs}
 use denote.Ref.{now}
 use lib.ListN.{length}
+use Rattle.pauli_word.specs.Limits.{maxSites}
 use Rattle.text.specs.Text.{put}
 use Rattle.sheet_rows.proofs.Rows.{spelled-length, spelled-front}
 use Rattle.sheet_rows.proofs.append_word.Statement.{statement}
@@ -23,7 +24,7 @@ part-append-start c = search needs
 part-append-end : tie.Need-part-append-end
 part-append-end c =
     let s = c .before .before .before .before .before .before in
-    let long : length (c .before .before .before .to-text .result .text) ≡ 256 = search needs in
+    let long : length (c .before .before .before .to-text .result .text) ≡ maxSites = search needs in
     omega (arith, s .pre .1 .sites)
 
 append-requires : tie.Need-append-requires

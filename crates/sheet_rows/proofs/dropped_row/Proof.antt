@@ -5,8 +5,9 @@ use native.Mathlib.Omega.{arith}
 use borrow.Author.Needs.{needs}
 use denote.Ref.{now}
 use lib.ListN.{length}
+use Rattle.text.proofs.Decimals.{written-short}
 use Rattle.text.specs.Text.{space, decimal}
-use Rattle.sheet_rows.proofs.Rows.{Writes, writes-room, writes-then, text-writes, number-writes, writes-as, dropped-pieces, number-short}
+use Rattle.sheet_rows.proofs.Rows.{Writes, writes-room, writes-then, text-writes, number-writes, writes-as, dropped-pieces}
 use Rattle.sheet_rows.proofs.dropped_row.Statement.{statement}
 use Rattle.sheet_rows.proofs.dropped_row.Tie as tie
 
@@ -33,7 +34,7 @@ weight-written c =
     let s = start (first c) in
     let room = missing-written (first c) .1 in
     let w = number-writes (c .append-number .ensures) (s .pre .0) (omega (arith, room)) in
-    (w, writes-room 8 3 w (omega (arith, number-short (s .args .weight) (s .pre .0))) (omega (arith, room)))
+    (w, writes-room 8 3 w (omega (arith, written-short (s .args .weight) (s .pre .0))) (omega (arith, room)))
 
 slice-aggregate-append : tie.Need-slice-aggregate-append
 slice-aggregate-append c = search needs

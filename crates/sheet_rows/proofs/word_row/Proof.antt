@@ -18,11 +18,11 @@ use Rattle.permutation.specs.Limits.{maxOrder}
 use Rattle.group.specs.Value.{generatorsOf}
 use Rattle.group.proofs.Accepted.{accepted-tables}
 use Rattle.momentum.specs.declared.inner.Placement.the-variants as Placement
-use Rattle.momentum.specs.Parts.{placement, placementWord}
+use Rattle.momentum.specs.Calls.{decision, rowWord}
+use Rattle.momentum.specs.Parts.{placementOf}
 use Rattle.text.specs.Text.{decimal, maxWritten}
-use Rattle.sheet_rows.specs.Rows.{missing, oneText}
+use Rattle.sheet_rows.specs.Rows.{missing, oneText, rest, numbersRoom}
 use Rattle.sheet_lines.specs.Lines.{zeroText}
-use Rattle.sheet_text.specs.Parts.{rest}
 use Rattle.sheet_rows.proofs.Rows.{Writes, writes-length, writes-then, text-writes, writes-as, dropped-short, kept-short, spelled-length, not-refused, weighed, weight-few, read-accepted, read-word, row-dropped, row-kept, kept-word, kept-small}
 use Rattle.sheet_rows.proofs.word_row.Statement.{statement}
 use Rattle.sheet_rows.proofs.word_row.Tie as tie
@@ -57,12 +57,12 @@ abbrev text : tie.Start → List ℕ
 text s = now (s .args .word)
 
 few : (s : tie.Start) → sites s ≤ maxSites
-few s = leb-true (sites s) maxSites (s .pre .0 .few)
+few s = s .pre .0 .few
 
 -- the generators are valid and of a small order
 sound : (s : tie.Start) → Valid (sites s) (gs s) × (orderOf (gs s) ≤ maxOrder)
 unfolding generatorsOf
-sound s = let tables = accepted-tables (s .args .group) (s .pre .0) (search needs) (search needs) in (tables .valid, tables .small)
+sound s = let tables = accepted-tables (s .args .group) (s .pre .0) in (tables .valid, tables .small)
 
 -- the word that the text writes
 module _ (c : tie.After-from-text) where
@@ -91,18 +91,18 @@ weight-below c = omega (arith, weight-is c, light (reading c))
 -- the text, and the room that is left
 written :
     (c : tie.After-append) → let s = start (reading (weighing c)) in let r = c .append in
-    Writes (s .args .at) (text s) (now (s .args .list)) (r .result) (r .last .0) × (r .result + (sites s + 28) ≤ length (r .last .0))
+    Writes (s .args .at) (text s) (now (s .args .list)) (r .result) (r .last .0) × (r .result + (sites s + 1 + numbersRoom) ≤ length (r .last .0))
 written c =
     let s = start (reading (weighing c)) in
     let w = text-writes (c .append .ensures) (omega (arith, s .pre .1 .1 .1)) in
     (w, omega (arith, w .ends, writes-length w, s .pre .1 .1 .0 .1, s .pre .1 .1 .1))
 
 -- where the word stands
-placed : (c : tie.After-placement-of) → let s = begin c in placement (gs s) (now (s .args .modes)) (readText (text s)) ≡ c .placement-of .result .answer
+placed : (c : tie.After-placement-of) → let s = begin c in placementOf (decision (gs s) (now (s .args .modes)) (readText (text s))) ≡ c .placement-of .result .answer
 placed c =
     let s = begin c in
     let e = letters (reading (weighing (appending c))) in
-    ap (placement (gs s) (now (s .args .modes))) (sym e) ∙ sym (c .placement-of .ensures .0)
+    ap (λ (w : Word). placementOf (decision (gs s) (now (s .args .modes)) w)) (sym e) ∙ sym (c .placement-of .ensures .0)
 
 -- where a kept word stands: its index and size are small, and its least word is accepted
 module _ (c : tie.After-answer) where
@@ -118,7 +118,7 @@ module _ (c : tie.After-answer) where
   abbrev size : ℕ
   size = c .answer .given .0 .1 .0
 
-  found : placement (gs o) (now (o .args .modes)) (readText (text o)) ≡ Placement.Kept index size
+  found : placementOf (decision (gs o) (now (o .args .modes)) (readText (text o))) ≡ Placement.Kept index size
   found = placed p ∙ c .answer .given .1
 
   small : (index < maxWritten) × (size < maxWritten)
@@ -130,7 +130,7 @@ module _ (c : tie.After-answer) where
       AcceptedWord (sites o) (p .placement-of .result .word)
       × (lettersIn (sites o) (p .placement-of .result .word) ≡ least (gs o) (readText (text o)))
   kept =
-      let e = p .placement-of .ensures .1 ∙ ap (placementWord (gs o) (now (o .args .modes))) (letters (reading (weighing (appending p)))) in
+      let e = p .placement-of .ensures .1 ∙ ap (λ (w : Word). rowWord (decision (gs o) (now (o .args .modes)) w)) (letters (reading (weighing (appending p)))) in
       kept-word (gs o) (now (o .args .modes)) (text o) (o .pre .1 .1 .0 .0) found (sound o .0) (o .pre .1 .1 .0 .1) (few o) e
 
 from-text-requires : tie.Need-from-text-requires
