@@ -10,18 +10,22 @@ use native.Mathlib.Omega.{arith}
 use lib.Dec.{eqb, ltb}
 use lib.ListN.{length, take, drop, length-append, length-drop}
 use lib.Seq.{length-take-le, drop-drop}
-use borrow.Author.Tests.{eq-eqb, ne-eqb, eqb-true, eqb-false}
+use borrow.Author.Tests.{ne-eqb, eqb-true, eqb-false}
+use Rattle.outcome.specs.declared.Refusal.{Refusal}
+use Rattle.outcome.specs.declared.Refusal.the-variants as Refusal
 use Rattle.pauli_word.specs.Limits.{maxSites}
 use Rattle.pauli_word.specs.Text.{lettersAlone}
-use Rattle.outcome.specs.Outcome.{Outcome, refused, answer, Check, verdict, given}
+use Rattle.outcome.specs.Outcome.{Outcome, refused, answer, verdict, given}
 use Rattle.action.specs.Permutation.{Generator}
-use Rattle.group.proofs.CallLaws.{verdict-append}
+use Rattle.outcome.proofs.Outcomes.{verdict-append, refused-apart}
 use Rattle.text.specs.Text.{lineEnd, before, pieces, isMode, put}
 use Rattle.text.specs.Parts.{fourFields}
 use Rattle.text.proofs.Pieces.{before-short, pieces-last, pieces-next, pieces-some}
 use Rattle.text.proofs.Puts.{put-nothing, put-length, put-put}
-use Rattle.sheet_text.specs.Sheet.{fields, field, firstPass, valueChecks, bodyChecks, lineRow, rows}
-use Rattle.sheet_text.specs.Parts.{faultAt, ruleOf}
+use Rattle.sheet_lines.specs.Lines.{fields, field, firstPass, valueChecks, bodyChecks}
+use Rattle.sheet_rows.specs.Rows.{lineRow, spread}
+use Rattle.sheet_text.specs.Sheet.{rows}
+use Rattle.sheet_lines.specs.Parts.{refusedAt}
 
 -- ---- the checks
 
@@ -34,7 +38,7 @@ module _ (m n : ℕ) (text : List ℕ) (k : ℕ) where
       go [] e = refl
       go (b ∷ t) e = absurd (omega arith)
 
-  pub body-unended : length (before lineEnd text) ≡ length text → 0 < length text → verdict (bodyChecks m n (pieces lineEnd text) k) ≡ refused 31 (k ∷ [])
+  pub body-unended : length (before lineEnd text) ≡ length text → 0 < length text → verdict (bodyChecks m n (pieces lineEnd text) k) ≡ refusedAt Refusal.LineForm k
   unfolding bodyChecks
   body-unended e h = rw (pieces-last lineEnd text e, ne-eqb (length text) 0 (λ z. omega arith))
 
@@ -48,41 +52,16 @@ module _ (m n : ℕ) (text : List ℕ) (k : ℕ) where
         rw (pieces-next lineEnd text j e h, s) (verdict-append (valueChecks m n (take j text) k) (bodyChecks m n (p ∷ ps) (suc k)))
 
     -- the first line breaks a rule
-    pub body-broken : (r : ℕ) → (r ≡ 0 → ⊥) → faultAt r k ≡ verdict (valueChecks m n (take j text) k)
-        → faultAt r k ≡ verdict (bodyChecks m n (pieces lineEnd text) k)
-    body-broken r some f =
-        let broken : faultAt r k ≡ refused r (k ∷ []) = rw (ne-eqb r 0 some) in
-        broken ∙ sym (body-next ∙ ap (λ (v : Outcome (Unit {0})). given v (verdict (bodyChecks m n (pieces lineEnd (drop (j + 1) text)) (suc k)))) (sym f ∙ broken))
+    pub body-broken : (why : Refusal) → refusedAt why k ≡ verdict (valueChecks m n (take j text) k)
+        → refusedAt why k ≡ verdict (bodyChecks m n (pieces lineEnd text) k)
+    body-broken why f =
+        sym (body-next ∙ ap (λ (v : Outcome (Unit {0})). given v (verdict (bodyChecks m n (pieces lineEnd (drop (j + 1) text)) (suc k)))) (sym f))
 
     -- or none, and those after it decide
-    pub body-passed : (r : ℕ) → r ≡ 0 → faultAt r k ≡ verdict (valueChecks m n (take j text) k)
+    pub body-passed : answer tt ≡ verdict (valueChecks m n (take j text) k)
         → verdict (bodyChecks m n (pieces lineEnd text) k) ≡ verdict (bodyChecks m n (pieces lineEnd (drop (j + 1) text)) (suc k))
-    body-passed r none f =
-        let fine : faultAt r k ≡ answer tt = rw (eq-eqb r 0 none) in
-        body-next ∙ ap (λ (v : Outcome (Unit {0})). given v (verdict (bodyChecks m n (pieces lineEnd (drop (j + 1) text)) (suc k)))) (sym f ∙ fine)
-
-rule-fault : (r k : ℕ) → ruleOf (faultAt r k) ≡ r
-rule-fault r k = go (eqb r 0) refl
-  where
-    go : (b : Bool) → eqb r 0 ≡ b → ruleOf {A = Unit {0}} (cond b (answer tt) (refused r (k ∷ []))) ≡ r
-    go true e = sym (eqb-true r 0 e)
-    go false e = refl
-
--- the rules of a value line are numbered up to 31
-pub fault-small : (r m n k : ℕ) (line : List ℕ) → faultAt r k ≡ verdict (valueChecks m n line k) → r ≤ 31
-fault-small r m n k line e =
-    go (not (fourFields line && firstPass isMode m (drop 1 (fields line)))) (ltb maxSites (length (field 0 line))) (not (lettersAlone (field 0 line)))
-    (not (eqb (length (field 0 line)) n)) (sym (rule-fault r k) ∙ ap ruleOf e)
-  where
-    go :
-        (a b c d : Bool)
-        → r ≡ ruleOf {A = Unit {0}} (cond a (refused 31 (k ∷ [])) (cond b (refused 28 (k ∷ [])) (cond c (refused 29 (k ∷ [])) (cond d (refused 16 (k ∷ [])) (answer tt)))))
-        → r ≤ 31
-    go true b c d h = omega arith
-    go false true c d h = omega arith
-    go false false true d h = omega arith
-    go false false false true h = omega arith
-    go false false false false h = omega arith
+    body-passed f =
+        body-next ∙ ap (λ (v : Outcome (Unit {0})). given v (verdict (bodyChecks m n (pieces lineEnd (drop (j + 1) text)) (suc k)))) (sym f)
 
 -- ---- at a place of a text
 
@@ -97,25 +76,25 @@ line-long text at r h = ap length (line-slice text at r) ∙ length-take-le r (d
 pub after-line : (text : List ℕ) (at r : ℕ) → drop (r + 1) (drop at text) ≡ drop (at + r + 1) text
 after-line text at r = drop-drop (r + 1) at text ∙ ap (λ (k : ℕ). drop k text) (sym (add-assoc at r 1))
 
-module _ (m n : ℕ) (text : List ℕ) (at r k rule : ℕ) (e : r ≡ length (before lineEnd (drop at text))) (h : at + r < length text)
-    (f : faultAt rule k ≡ verdict (valueChecks m n (take (at + r - at) (drop at text)) k)) where
+module _ (m n : ℕ) (text : List ℕ) (at r k : ℕ) (e : r ≡ length (before lineEnd (drop at text))) (h : at + r < length text) where
   inside : r < length (drop at text)
   inside = omega (arith, length-drop at text)
 
-  line-fault : faultAt rule k ≡ verdict (valueChecks m n (take r (drop at text)) k)
-  line-fault = f ∙ ap (λ (l : List ℕ). verdict (valueChecks m n l k)) (line-slice text at r)
+  slice-checks : verdict (valueChecks m n (take (at + r - at) (drop at text)) k) ≡ verdict (valueChecks m n (take r (drop at text)) k)
+  slice-checks = ap (λ (l : List ℕ). verdict (valueChecks m n l k)) (line-slice text at r)
 
-  pub place-broken : (rule ≡ 0 → ⊥) → faultAt rule k ≡ verdict (bodyChecks m n (pieces lineEnd (drop at text)) k)
-  place-broken some = body-broken m n (drop at text) k r e inside rule some line-fault
+  pub place-broken : (why : Refusal) → refusedAt why k ≡ verdict (valueChecks m n (take (at + r - at) (drop at text)) k)
+      → refusedAt why k ≡ verdict (bodyChecks m n (pieces lineEnd (drop at text)) k)
+  place-broken why f = body-broken m n (drop at text) k r e inside why (f ∙ slice-checks)
 
-  pub place-passed : rule ≡ 0
+  pub place-passed : answer tt ≡ verdict (valueChecks m n (take (at + r - at) (drop at text)) k)
       → verdict (bodyChecks m n (pieces lineEnd (drop at text)) k) ≡ verdict (bodyChecks m n (pieces lineEnd (drop (at + r + 1) text)) (k + 1))
-  place-passed none =
-      body-passed m n (drop at text) k r e inside rule none line-fault
+  place-passed f =
+      body-passed m n (drop at text) k r e inside (f ∙ slice-checks)
       ∙ ap₂ (λ (t : List ℕ) (j : ℕ). verdict (bodyChecks m n (pieces lineEnd t) j)) (after-line text at r) (sym (add-one k))
 
 pub place-unended : (m n : ℕ) (text : List ℕ) (at r k : ℕ) → r ≡ length (before lineEnd (drop at text)) → at + r ≡ length text → at < length text
-    → verdict (bodyChecks m n (pieces lineEnd (drop at text)) k) ≡ refused 31 (k ∷ [])
+    → verdict (bodyChecks m n (pieces lineEnd (drop at text)) k) ≡ refusedAt Refusal.LineForm k
 place-unended m n text at r k e all some =
     body-unended m n (drop at text) k (omega (arith, e, length-drop at text)) (omega (arith, length-drop at text))
 
@@ -125,7 +104,7 @@ place-end m n text at k h = body-end m n (drop at text) k (omega (arith, length-
 -- ---- the rows
 
 pub given-passes : (v o : Outcome (Unit {0})) → given v o ≡ answer tt → (v ≡ answer tt) × (o ≡ answer tt)
-given-passes (refused k vs) o e = let z : _≡_ {A = ℕ} 0 1 = cc in absurd (omega arith)
+given-passes (refused k vs) o e = absurd (refused-apart k vs tt e)
 given-passes (answer tt) o e = (refl, e)
 
 pub rows-end : (m : ℕ) (gs : List Generator) (text : List ℕ) → length text ≡ 0 → rows m gs (pieces lineEnd text) ≡ []
@@ -148,13 +127,17 @@ pass-any m n k line =
     (not (eqb (length (field 0 line)) n))
   where
     at : Bool → Bool → Bool → Bool → ℕ → Outcome (Unit {0})
-    at a b c d k = cond a (refused 31 (k ∷ [])) (cond b (refused 28 (k ∷ [])) (cond c (refused 29 (k ∷ [])) (cond d (refused 16 (k ∷ [])) (answer tt))))
+    at a b c d k =
+        cond a (refusedAt Refusal.LineForm k)
+        (cond b (refusedAt Refusal.TooManyLetters k)
+        (cond c (refusedAt (Refusal.NotALetter 0) k)
+        (cond d (refusedAt Refusal.OtherSites k) (answer tt))))
 
     go : (a b c d : Bool) → at a b c d k ≡ answer tt → at a b c d 0 ≡ answer tt
-    go true b c d h = let z : _≡_ {A = ℕ} 0 1 = cc in absurd (omega arith)
-    go false true c d h = let z : _≡_ {A = ℕ} 0 1 = cc in absurd (omega arith)
-    go false false true d h = let z : _≡_ {A = ℕ} 0 1 = cc in absurd (omega arith)
-    go false false false true h = let z : _≡_ {A = ℕ} 0 1 = cc in absurd (omega arith)
+    go true b c d h = absurd (refused-apart _ _ tt h)
+    go false true c d h = absurd (refused-apart _ _ tt h)
+    go false false true d h = absurd (refused-apart _ _ tt h)
+    go false false false true h = absurd (refused-apart _ _ tt h)
     go false false false false h = refl
 
 -- the rows of the lines before a place are written, and the lines from there on break no rule
@@ -166,11 +149,11 @@ pub record Filling (used sites : ℕ) (gs : List Generator) (text list₀ : List
   pub placed : place ≡ start + length written
   pub made : list ≡ put start written list₀
   pub more : written ++ rows used gs (pieces lineEnd (drop at text)) ≡ rows used gs (pieces lineEnd text)
-  pub room : place + 4 * (length text - at) ≤ length list₀
+  pub room : place + spread * (length text - at) ≤ length list₀
 
 pub filling-start :
     (used sites : ℕ) (gs : List Generator) (text list : List ℕ) (start : ℕ) → verdict (bodyChecks used sites (pieces lineEnd text) 4) ≡ answer tt
-    → start + 4 * length text ≤ length list → Filling used sites gs text list start list 0 start
+    → start + spread * length text ≤ length list → Filling used sites gs text list start list 0 start
 filling-start used sites gs text list start fine room =
     record {
       inside = omega arith;
@@ -209,9 +192,7 @@ module _ {used sites : ℕ} {gs : List Generator} {text list₀ : List ℕ} {sta
 
         go : (b : Bool) → eqb (at + r) (length text) ≡ b → at + r < length text
         go true t =
-            let bad = sym (place-unended used sites text at r (f .line) e (eqb-true (at + r) (length text) t) h) ∙ f .fine in
-            let z : _≡_ {A = ℕ} 0 1 = cc in
-            absurd (omega arith)
+            absurd (refused-apart _ _ tt (sym (place-unended used sites text at r (f .line) e (eqb-true (at + r) (length text) t) h) ∙ f .fine))
         go false t = omega (arith, within, eqb-false (at + r) (length text) t)
 
     -- and breaks no rule
@@ -224,7 +205,7 @@ module _ {used sites : ℕ} {gs : List Generator} {text list₀ : List ℕ} {sta
     pub filling-fine : verdict (valueChecks used sites (take (at + r - at) (drop at text)) 0) ≡ answer tt
     filling-fine = rw (line-slice text at r) (pass-any used sites (f .line) (take r (drop at text)) (passes .0))
 
-    module _ (short : length (lineRow used gs (take (at + r - at) (drop at text))) ≤ 4 * (length (take (at + r - at) (drop at text)) + 1)) where
+    module _ (short : length (lineRow used gs (take (at + r - at) (drop at text))) ≤ spread * (length (take (at + r - at) (drop at text)) + 1)) where
       pub filling-next :
           {next : List ℕ} {after : ℕ} → after ≡ place + length (lineRow used gs (take (at + r - at) (drop at text)))
           → next ≡ put place (lineRow used gs (take (at + r - at) (drop at text))) list → Filling used sites gs text list₀ start next (at + r + 1) after

@@ -1,80 +1,44 @@
 -- A list of `maxTable` bytes suffices for what any sheet prints: an accepted sheet prints at most four bytes for each of its own, and the names; a refused
 -- one prints one short line.
-use Prim.Native.Nat.{ℕ, zero, suc, _+_, _-_, _*_, _/_, _%_, _≤_, _<_}
+use Prim.Native.Nat.{ℕ, suc, _+_, _*_, _≤_}
 use mathlib.Core.Path.{_≡_, refl, sym, ap, _∙_}
-use mathlib.Core.Bool.{Bool, true, false, cond, not}
+use mathlib.Core.Bool.{Bool, true, false, cond}
 use mathlib.Core.List.{List, [], _∷_, _++_}
 use native.Mathlib.Omega.{arith}
-use lib.Dec.{ltb, eqb}
-use lib.ListN.{length, getD, drop, length-append}
+use lib.Dec.{eqb}
+use lib.ListN.{length, length-append}
 use borrow.Author.Tests.{ltb-false}
 use Rattle.outcome.specs.Outcome.{Outcome, refused, answer, verdict, given}
 use Rattle.action.specs.Permutation.{Generator, Valid}
 use Rattle.action.specs.Index.{orderOf}
 use Rattle.permutation.specs.Limits.{maxOrder}
-use Rattle.permutation.proofs.Rules.{verdict-fine}
-use Rattle.group.specs.declared.Group.{Group}
-use Rattle.group.specs.Value.{generatorsOf, AcceptedGroup}
+use Rattle.outcome.proofs.Outcomes.{verdict-fine, verdict-append, refused-apart}
+use Rattle.group.specs.Value.{generatorsOf}
 use Rattle.group.proofs.Accepted.{accepted-tables}
-use Rattle.group.proofs.CallLaws.{verdict-append}
-use Rattle.group.proofs.Given.{Long, held-valid}
-use Rattle.text.specs.Text.{lineEnd, pieces, digitsOf, decimal, extended}
+use Rattle.text.specs.Text.{lineEnd, pieces, decimal, extended, wideDigits, space}
 use Rattle.text.proofs.Pieces.{pieces-some}
-use Rattle.sheet_text.specs.Sheet.{
-  tableNames,
-  refusedName,
-  shapeNames,
-  wordNames,
-  namesLine,
-  modesOf,
-  atLine,
-  lineShape,
-  lineSites,
-  shapeChecks,
-  valueChecks,
-  bodyChecks,
-  thirdChecks,
-  secondChecks,
-  lineChecks,
-  sheetSize,
-  maxSheet,
-  maxTable,
-  joined,
-  lineRow,
-  rows,
-  lineGenerators,
-  table,
-  sheetOutcome,
-  printed,
-  sheet,
-}
-use Rattle.sheet_text.specs.Parts.{lineGroup}
-use Rattle.sheet_text.proofs.Widths.{lineRow-short}
+use Rattle.sheet_lines.specs.Lines.{shapeNames, wordNames, namesLine, modesOf, lineShape, lineSites, shapeChecks, valueChecks, bodyChecks, thirdChecks, secondChecks, lineChecks}
+use Rattle.sheet_rows.specs.Rows.{joined, lineRow, spread}
+use Rattle.sheet_text.specs.Sheet.{tableNames, sheetSize, maxSheet, maxTable, rows, lineGenerators, table, sheetOutcome, printed, sheet}
+use Rattle.sheet_lines.specs.Parts.{lineGroup}
+use Rattle.sheet_rows.proofs.Widths.{lineRow-short}
 use Rattle.sheet_text.proofs.Bodies.{given-passes, pass-any}
 use Rattle.sheet_text.proofs.Groups.{line-stands, line-sites}
+use Rattle.text.proofs.Decimals.{decimal-most}
+use Rattle.pauli_word.specs.Limits.{maxSites}
 
 -- ---- a refused sheet
 
-digits-most : (f n : ℕ) → length (digitsOf f n) ≤ f
-unfolding digitsOf
-digits-most zero n = omega arith
-digits-most (suc f) n = go (ltb n 10) (digits-most f (n / 10))
-  where
-    go : (b : Bool) → length (digitsOf f (n / 10)) ≤ f
-        → length (cond b ((48 + n) ∷ []) (digitsOf f (n / 10) ++ ((48 + n % 10) ∷ []))) ≤ suc f
-    go true h = omega arith
-    go false h = omega (arith, length-append (digitsOf f (n / 10)) ((48 + n % 10) ∷ []))
-
-refusal-short : (k : ℕ) (vs : List ℕ) → length (printed (refused k vs)) ≤ 50
-unfolding joined decimal
-refusal-short k [] = omega (arith, length-append (digitsOf 20 k) (lineEnd ∷ []), digits-most 20 k)
+refusal-short : (k : ℕ) (vs : List ℕ) → length (printed (refused k vs)) ≤ 2 * wideDigits + 10
+unfolding joined
+refusal-short k [] = omega (arith, length-append (decimal k) (lineEnd ∷ []), decimal-most k)
 refusal-short k (l ∷ vs) =
     omega (
       arith,
-      length-append (digitsOf 20 k) (32 ∷ (digitsOf 20 l ++ (lineEnd ∷ []))),
-      length-append (digitsOf 20 l) (lineEnd ∷ []),
-      digits-most 20 k,
-      digits-most 20 l,
+      length-append (decimal k) (space ∷ (decimal l ++ (lineEnd ∷ []))),
+      length-append (decimal l) (lineEnd ∷ []),
+      decimal-most k,
+      decimal-most l,
     )
 
 -- ---- the bytes of pieces, each with what parts it from the next
@@ -95,8 +59,8 @@ pieces-span c (b ∷ bs) = go (eqb b c) (pieces-some c bs) (pieces-span c bs)
 
 -- ---- the rows
 
-module _ {n : ℕ} {gs : List Generator} (valid : Valid n gs) (small : orderOf gs ≤ maxOrder) (few : n ≤ 256) (used : ℕ) where
-  rows-short : (ps : List (List ℕ)) (k : ℕ) → verdict (bodyChecks used n ps k) ≡ answer tt → length (rows used gs ps) ≤ 4 * span ps
+module _ {n : ℕ} {gs : List Generator} (valid : Valid n gs) (small : orderOf gs ≤ maxOrder) (few : n ≤ maxSites) (used : ℕ) where
+  rows-short : (ps : List (List ℕ)) (k : ℕ) → verdict (bodyChecks used n ps k) ≡ answer tt → length (rows used gs ps) ≤ spread * span ps
   unfolding rows bodyChecks span
   rows-short [] k fine = omega arith
   rows-short (last ∷ []) k fine = omega arith
@@ -114,11 +78,11 @@ module _ {n : ℕ} {gs : List Generator} (valid : Valid n gs) (small : orderOf g
 -- ---- the table
 
 module _ (line : List ℕ) (fine : verdict (shapeChecks line 2) ≡ answer tt) where
-  line-valid : Valid (lineSites line) (lineGenerators line) × (orderOf (lineGenerators line) ≤ maxOrder) × (lineSites line ≤ 256)
+  line-valid : Valid (lineSites line) (lineGenerators line) × (orderOf (lineGenerators line) ≤ maxOrder) × (lineSites line ≤ maxSites)
   unfolding generatorsOf
   line-valid =
-      let (ok, means, count, long) = line-stands line 2 fine in
-      let t = accepted-tables (lineGroup line) ok (long .targets) (long .orders) in
+      let (ok, means, count) = line-stands line 2 fine in
+      let t = accepted-tables (lineGroup line) ok in
       let sites = line-sites line 2 fine in
       rw (← means, ← sites) (t .valid, t .small, t .sites)
 
@@ -127,10 +91,10 @@ no-rows : (m : ℕ) (gs : List Generator) → length (rows m gs []) ≡ 0
 unfolding rows
 no-rows m gs = refl
 
-table-short : (ps : List (List ℕ)) → verdict (lineChecks ps) ≡ answer tt → length (table ps) ≤ 33 + 4 * span ps
+table-short : (ps : List (List ℕ)) → verdict (lineChecks ps) ≡ answer tt → length (table ps) ≤ length tableNames + 1 + spread * span ps
 unfolding lineChecks secondChecks thirdChecks table span
 table-short [] fine = omega (arith, no-rows (modesOf (lineShape [])) (lineGenerators []))
-table-short (l ∷ []) fine = let z : _≡_ {A = ℕ} 0 1 = cc in absurd (omega arith)
+table-short (l ∷ []) fine = absurd (refused-apart _ _ tt fine)
 table-short (l ∷ m ∷ []) fine = omega (arith, no-rows (modesOf (lineShape m)) (lineGenerators m))
 table-short (l ∷ m ∷ o ∷ []) fine = omega (arith, no-rows (modesOf (lineShape m)) (lineGenerators m))
 table-short (l ∷ m ∷ o ∷ p ∷ rest) fine =

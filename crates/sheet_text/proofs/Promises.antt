@@ -1,7 +1,6 @@
--- What is promised of what a sheet prints, to be read without the proofs: each statement is followed by the law that shows it.
+-- What is promised of what a sheet prints: each statement is followed by the law that shows it.
 --
--- 1 An accepted sheet, 2 A refused sheet, 3 How long it is. The statements are about the definitions of `specs/`, and about these: `OneLine`, a text
--- whose only line end is its last byte; `valueLines`, the lines of a sheet after the third; `together`, texts one after the other.
+-- 1 An accepted sheet, 2 A refused sheet, 3 How long it is. `specs/Text` says what a line is, which lines are value lines, and what texts together are.
 use Prim.Native.Nat.{ℕ, zero, suc, _+_, _/_, _%_, _≤_}
 use mathlib.Core.Path.{_≡_, refl, sym, ap, ap₂, _∙_}
 use mathlib.Core.Bool.{Bool, true, false, cond, not, _&&_, and-eq-true-iff}
@@ -11,72 +10,25 @@ use lib.Dec.{eqb, ltb}
 use lib.IntN.{ℤ}
 use lib.ListN.{length, getD, drop}
 use borrow.Author.Tests.{ne-eqb}
-use Rattle.outcome.specs.Outcome.{Outcome, refused, answer, verdict, given}
-use Rattle.pauli_word.specs.Word.{Letter, I, X, Y, Z, Word, weight}
-use Rattle.pauli_word.specs.Text.{glyph, readText, spell}
+use Rattle.outcome.specs.Outcome.{refused, answer}
+use Rattle.pauli_word.specs.Word.{I, X, Y, Z, Word, weight}
+use Rattle.pauli_word.specs.Text.{readText, spell}
 use Rattle.action.specs.Lists.{every}
 use Rattle.action.specs.Permutation.{Generator}
-use Rattle.action.specs.Orbit.{least, indexBack, orbitSize}
-use Rattle.action.specs.Sector.{keeps}
-use Rattle.group.proofs.Given.{unless-answer}
-use Rattle.text.specs.Text.{lineEnd, space, pieces, digitsOf, decimal, modeOf}
-use Rattle.sheet_text.specs.Sheet.{
-  tableNames,
-  refusedName,
-  zeroText,
-  oneText,
-  missing,
-  modesOf,
-  lineShape,
-  fields,
-  field,
-  lineChecks,
-  sheetSize,
-  maxTable,
-  joined,
-  row,
-  lineRow,
-  rows,
-  lineGenerators,
-  table,
-  sheetOutcome,
-  printed,
-  sheet,
-}
+use Rattle.outcome.proofs.Outcomes.{unless-answer}
+use Rattle.text.specs.Text.{lineEnd, space, pieces, digitsOf, decimal, zeroDigit, wideDigits}
+use Rattle.sheet_rows.specs.Rows.{refusedName, oneText, missing, joined, row, lineRow, rowFields}
+use Rattle.sheet_lines.specs.Lines.{zeroText, modesOf, lineShape, field, lineChecks}
+use Rattle.sheet_text.specs.Sheet.{tableNames, sheetSize, maxTable, rows, lineGenerators, table, sheetOutcome, printed, sheet}
 use Rattle.sheet_text.proofs.Fits as Fits
-
--- a text whose only line end is its last byte
-abbrev noEnd : List ℕ → Bool
-noEnd text = every (λ b. not (eqb b lineEnd)) text
-
-pub record OneLine (text : List ℕ) : Type 0 where
-  pub line : List ℕ
-  pub ended : text ≡ line ++ (lineEnd ∷ [])
-  pub whole : noEnd line ≡ true
-
--- all but the last
-abbrev pub front : List (List ℕ) → List (List ℕ)
-front [] = []
-front (p ∷ []) = []
-front (p ∷ q ∷ ps) = p ∷ front (q ∷ ps)
-
--- the lines of a sheet after the third
-abbrev pub valueLines : List ℕ → List (List ℕ)
-valueLines input = front (drop 3 (pieces lineEnd input))
-
--- texts one after the other
-abbrev pub together : List (List ℕ) → List ℕ
-together [] = []
-together (t ∷ ts) = t ++ together ts
+use Rattle.sheet_text.specs.Text.{noEnd, OneLine, front, valueLines, together}
+use Rattle.text.proofs.Numbers.{every-append}
+use Rattle.momentum.specs.Calls.{decision, Decision, kept, dropped, Row}
 
 -- ---- lines
 
-every-append : (p : ℕ → Bool) (xs ys : List ℕ) → every p xs ≡ true → every p ys ≡ true → every p (xs ++ ys) ≡ true
-unfolding every
-every-append p [] ys a b = b
-every-append p (x ∷ xs) ys a b =
-    let both = and-eq-true-iff (p x) (every p xs) .0 a in
-    and-eq-true-iff (p x) (every p (xs ++ ys)) .1 (both .0, every-append p xs ys (both .1) b)
+append-whole : (xs ys : List ℕ) → noEnd xs ≡ true → noEnd ys ≡ true → noEnd (xs ++ ys) ≡ true
+append-whole xs ys a b = every-append (λ b. not (eqb b lineEnd)) xs ys ∙ ap₂ _&&_ a b
 
 spell-whole : (w : Word) → noEnd (spell w) ≡ true
 unfolding every
@@ -91,16 +43,16 @@ unfolding digitsOf every
 digits-whole zero n = refl
 digits-whole (suc f) n = go (ltb n 10) (digits-whole f (n / 10))
   where
-    digit : (k : ℕ) → noEnd ((48 + k) ∷ []) ≡ true
-    digit k = rw (ne-eqb (48 + k) 10 (λ e. omega arith))
+    digit : (k : ℕ) → noEnd ((zeroDigit + k) ∷ []) ≡ true
+    digit k = rw (ne-eqb (zeroDigit + k) lineEnd (λ e. omega arith))
 
-    go : (b : Bool) → noEnd (digitsOf f (n / 10)) ≡ true → noEnd (cond b ((48 + n) ∷ []) (digitsOf f (n / 10) ++ ((48 + n % 10) ∷ []))) ≡ true
+    go : (b : Bool) → noEnd (digitsOf f (n / 10)) ≡ true → noEnd (cond b ((zeroDigit + n) ∷ []) (digitsOf f (n / 10) ++ ((zeroDigit + n % 10) ∷ []))) ≡ true
     go true h = digit n
-    go false h = every-append (λ b. not (eqb b lineEnd)) (digitsOf f (n / 10)) ((48 + n % 10) ∷ []) h (digit (n % 10))
+    go false h = append-whole (digitsOf f (n / 10)) ((zeroDigit + n % 10) ∷ []) h (digit (n % 10))
 
 decimal-whole : (n : ℕ) → noEnd (decimal n) ≡ true
 unfolding decimal
-decimal-whole n = digits-whole 20 n
+decimal-whole n = digits-whole wideDigits n
 
 joined-one : (f : List ℕ) (fs : List (List ℕ)) → every noEnd (f ∷ fs) ≡ true → OneLine (joined (f ∷ fs))
 unfolding joined every
@@ -111,7 +63,7 @@ joined-one f (g ∷ fs) h =
     record {
       line = f ++ (space ∷ more .line);
       ended = ap (λ (t : List ℕ). f ++ (space ∷ t)) (more .ended) ∙ sym (append-assoc f (space ∷ more .line) (lineEnd ∷ []));
-      whole = every-append (λ b. not (eqb b lineEnd)) f (space ∷ more .line) (both .0) (more .whole);
+      whole = append-whole f (space ∷ more .line) (both .0) (more .whole);
     }
 
 rows-together : (m : ℕ) (gs : List Generator) (ps : List (List ℕ)) → rows m gs ps ≡ together (map (lineRow m gs) (front ps))
@@ -124,16 +76,13 @@ rows-together m gs (p ∷ q ∷ ps) = ap (λ (t : List ℕ). lineRow m gs p ++ t
 
 pub row-line : (gs : List Generator) (w : Word) (ks : List ℤ) → OneLine (row gs w ks)
 unfolding row every
-row-line gs w ks = go (keeps gs ks w)
+row-line gs w ks = go (decision gs ks w)
   where
-    go : (b : Bool)
-        → OneLine (joined (cond b
-        (spell w ∷ spell (least gs w) ∷ decimal (indexBack gs w) ∷ decimal (orbitSize gs w) ∷ decimal (weight w) ∷ oneText ∷ [])
-        (spell w ∷ missing ∷ missing ∷ missing ∷ decimal (weight w) ∷ zeroText ∷ [])))
-    go true =
-        joined-one (spell w) (spell (least gs w) ∷ decimal (indexBack gs w) ∷ decimal (orbitSize gs w) ∷ decimal (weight w) ∷ oneText ∷ [])
-        (rw (spell-whole w, spell-whole (least gs w), decimal-whole (indexBack gs w), decimal-whole (orbitSize gs w), decimal-whole (weight w)))
-    go false =
+    go : (d : Decision Row) → OneLine (joined (rowFields w d))
+    go (kept r) =
+        joined-one (spell w) (spell (r .word) ∷ decimal (r .index) ∷ decimal (r .size) ∷ decimal (weight w) ∷ oneText ∷ [])
+        (rw (spell-whole w, spell-whole (r .word), decimal-whole (r .index), decimal-whole (r .size), decimal-whole (weight w)))
+    go dropped =
         joined-one (spell w) (missing ∷ missing ∷ missing ∷ decimal (weight w) ∷ zeroText ∷ []) (rw (spell-whole w, decimal-whole (weight w)))
 
 module _ (input : List ℕ) where

@@ -1,54 +1,68 @@
 -- What a sheet prints: the line of its first broken rule, or its table.
 -- What carries it: the checks of a sheet come to those of its first three lines, and then to those of its value lines.
-use Prim.Native.Nat.{ℕ, _+_, _-_, _*_, _≤_, _<_}
+use Prim.Native.Nat.{ℕ, _-_, _≤_, _<_}
 use mathlib.Core.Path.{_≡_, refl, sym, ap, ap₂, _∙_}
-use mathlib.Core.Bool.{Bool, true, false, cond}
+use mathlib.Core.Bool.{Bool, cond}
 use mathlib.Core.List.{List, [], _∷_, _++_}
 use native.Mathlib.Nat.{sub-zero}
 use native.Mathlib.Omega.{arith}
-use lib.Dec.{ltb, eqb}
-use lib.ListN.{length, getD, take, drop, length-append, length-drop}
+use lib.ListN.{length, getD, take, drop, length-drop}
 use lib.Seq.{take-at}
-use borrow.Author.Tests.{lt-ltb, le-ltb, ne-eqb, eq-eqb}
-use Rattle.outcome.specs.Outcome.{Outcome, refused, answer, verdict, given}
+use borrow.Author.Tests.{lt-ltb, le-ltb}
+use Rattle.outcome.specs.Outcome.{Outcome, refused, answer, verdict, given, onAnswer, done, ruleNumber, refusalOf}
+use Rattle.outcome.specs.declared.Refusal.{Refusal}
+use Rattle.outcome.specs.declared.Refusal.the-variants as Refusal
+use Rattle.sheet_lines.specs.declared.LineVerdict.{LineVerdict}
+use Rattle.sheet_lines.specs.declared.LineVerdict.the-variants as LineVerdict
 use Rattle.pauli_word.proofs.Words.{rest-part}
 use Rattle.group.specs.declared.Group.{Group}
 use Rattle.group.specs.Value.{generatorsOf, AcceptedGroup}
-use Rattle.group.proofs.Given.{Long}
-use Rattle.text.specs.Text.{lineEnd, pieces, decimal, put}
-use Rattle.text.proofs.Decimals.{decimal-short}
-use Rattle.sheet_text.specs.Sheet.{tableNames, refusedName, modesOf, lineShape, lineSites, bodyChecks, lineChecks, sheetSize, maxSheet, maxTable, joined, rows, lineGenerators, table, sheetOutcome, printed, sheet, tooShort, writtenOutcome}
-use Rattle.sheet_text.specs.Parts.{faultAt, lineGroup, Ready}
-use Rattle.sheet_text.specs.declared.head.Head.{Head}
+use Rattle.text.specs.Text.{lineEnd, pieces, put}
+use Rattle.sheet_lines.specs.Lines.{modesOf, lineShape, lineSites, bodyChecks, lineChecks}
+use Rattle.sheet_text.specs.Sheet.{tableNames, sheetSize, maxSheet, rows, lineGenerators, table, sheetOutcome, printed, sheet, writtenOutcome, pageOf, tablePage, refusalPage}
+use Rattle.sheet_lines.specs.Parts.{lineGroup, Ready, outcomeOfLines, refusedAt}
+use Rattle.sheet_lines.specs.declared.head.Head.{Head}
 use Rattle.sheet_text.proofs.Groups.{line-stands, line-sites, modes-few}
+use Rattle.sheet_rows.specs.Rows.{refusalLine}
+use Rattle.outcome.proofs.Outcomes.{refused-apart}
 
--- the bytes of a refused sheet
-abbrev pub refusalLine : ℕ → ℕ → List ℕ
-refusalLine rule line = joined (refusedName ∷ decimal rule ∷ decimal line ∷ [])
+-- what goes with what the checks of a sheet come to
+abbrev pub Prints : List ℕ → LineVerdict → List ℕ → Type 0
+Prints input v text = (outcomeOfLines v ≡ onAnswer done (sheetOutcome input)) × (sheet input ≡ text)
 
 module _ (input : List ℕ) where
-  sheet-by : (v : Outcome (Unit {0})) → verdict (sheetSize input ∷ lineChecks (pieces lineEnd input)) ≡ v
-      → sheet input ≡ printed (given v (answer (table (pieces lineEnd input))))
-  unfolding sheet sheetOutcome
-  sheet-by v e = ap (λ (u : Outcome (Unit {0})). printed (given u (answer (table (pieces lineEnd input))))) e
+  prints-by : (v : Outcome (Unit {0})) → verdict (sheetSize input ∷ lineChecks (pieces lineEnd input)) ≡ v
+      → sheetOutcome input ≡ given v (answer (table (pieces lineEnd input)))
+  unfolding sheetOutcome
+  prints-by v e = ap (λ (u : Outcome (Unit {0})). given u (answer (table (pieces lineEnd input)))) e
+
+  prints-refused : (why : Refusal) (line : ℕ) → verdict (sheetSize input ∷ lineChecks (pieces lineEnd input)) ≡ refusedAt why line
+      → Prints input (LineVerdict.Refused why line) (refusalLine (ruleNumber why) line)
+  unfolding sheet
+  prints-refused why line e =
+      let o = prints-by (refusedAt why line) e in
+      (sym (ap (onAnswer done) o), ap printed o)
 
   -- 30
-  pub sheet-long : maxSheet < length input → sheet input ≡ refusalLine 30 0
+  pub sheet-long : maxSheet < length input → Prints input (LineVerdict.Refused Refusal.SheetLength 0) (refusalLine (ruleNumber Refusal.SheetLength) 0)
   sheet-long h =
-      sheet-by (refused 30 (0 ∷ []))
-      (ap (λ (b : Bool). cond b (refused 30 (0 ∷ [])) (verdict (lineChecks (pieces lineEnd input)))) (lt-ltb maxSheet (length input) h))
+      prints-refused Refusal.SheetLength 0
+      (ap (λ (b : Bool). cond b (refusedAt Refusal.SheetLength 0) (verdict (lineChecks (pieces lineEnd input)))) (lt-ltb maxSheet (length input) h))
 
   module _ (short : length input ≤ maxSheet) where
     lines-decide : verdict (sheetSize input ∷ lineChecks (pieces lineEnd input)) ≡ verdict (lineChecks (pieces lineEnd input))
-    lines-decide = ap (λ (b : Bool). cond b (refused 30 (0 ∷ [])) (verdict (lineChecks (pieces lineEnd input)))) (le-ltb maxSheet (length input) short)
+    lines-decide =
+        ap (λ (b : Bool). cond b (refusedAt Refusal.SheetLength 0) (verdict (lineChecks (pieces lineEnd input)))) (le-ltb maxSheet (length input) short)
 
-    pub sheet-broken : (rule line : ℕ) → (rule ≡ 0 → ⊥) → faultAt rule line ≡ verdict (lineChecks (pieces lineEnd input)) → sheet input ≡ refusalLine rule line
-    sheet-broken rule line some f =
-        let broken : faultAt rule line ≡ refused rule (line ∷ []) = rw (ne-eqb rule 0 some) in
-        sheet-by (refused rule (line ∷ [])) (lines-decide ∙ sym f ∙ broken)
+    pub sheet-broken : (why : Refusal) (line : ℕ) → refusedAt why line ≡ verdict (lineChecks (pieces lineEnd input))
+        → Prints input (LineVerdict.Refused why line) (refusalLine (ruleNumber why) line)
+    sheet-broken why line f = prints-refused why line (lines-decide ∙ sym f)
 
-    pub sheet-fine : verdict (lineChecks (pieces lineEnd input)) ≡ answer tt → sheet input ≡ table (pieces lineEnd input)
-    sheet-fine f = sheet-by (answer tt) (lines-decide ∙ f)
+    pub sheet-fine : verdict (lineChecks (pieces lineEnd input)) ≡ answer tt → Prints input LineVerdict.Accepted (table (pieces lineEnd input))
+    unfolding sheet
+    sheet-fine f =
+        let o = prints-by (answer tt) (lines-decide ∙ f) in
+        (sym (ap (onAnswer done) o), ap printed o)
 
 -- the table, by its second line and the lines after the third
 pub table-rows : (ls ps : List (List ℕ)) (line : List ℕ) → getD ls 1 [] ≡ line → drop 3 ls ≡ ps
@@ -65,7 +79,7 @@ module _ (input : List ℕ) (short : length input ≤ maxSheet) (h : Head) (read
   body-is : body ≡ drop (h .body) input
   body-is = rest-part (h .body) input
 
-  stands : AcceptedGroup (lineGroup (ready .line)) × (generatorsOf (lineGroup (ready .line)) ≡ lineGenerators (ready .line)) × (lineGroup (ready .line) .generators ≡ modesOf (lineShape (ready .line))) × Long (lineGroup (ready .line))
+  stands : AcceptedGroup (lineGroup (ready .line)) × (generatorsOf (lineGroup (ready .line)) ≡ lineGenerators (ready .line)) × (lineGroup (ready .line) .generators ≡ modesOf (lineShape (ready .line)))
   stands = line-stands (ready .line) 2 (ready .fine)
 
   pub ready-few : h .used ≤ 3
@@ -89,23 +103,49 @@ module _ (input : List ℕ) (short : length input ≤ maxSheet) (h : Head) (read
       ∙ ap₂ (λ (n : ℕ) (t : List ℕ). verdict (bodyChecks (h .used) n (pieces lineEnd t) 4)) (sym same-sites) (sym body-is)
 
   pub ready-prints : verdict (bodyChecks (h .used) (h .group .sites) (pieces lineEnd body) 4) ≡ answer tt
-      → sheet input ≡ (tableNames ++ (lineEnd ∷ [])) ++ rows (h .used) (generatorsOf (h .group)) (pieces lineEnd body)
+      → Prints input LineVerdict.Accepted ((tableNames ++ (lineEnd ∷ [])) ++ rows (h .used) (generatorsOf (h .group)) (pieces lineEnd body))
   ready-prints fine =
       let gens : generatorsOf (h .group) ≡ lineGenerators (ready .line) = ap generatorsOf (ready .group) ∙ stands .1 in
-      sheet-fine input short (ready-checks ∙ fine)
-      ∙ table-rows (pieces lineEnd input) (pieces lineEnd body) (ready .line) (ready .second) (ready .lines ∙ ap (pieces lineEnd) (sym body-is))
-      ∙ rw (ready .used, gens)
+      let (answers, text) = sheet-fine input short (ready-checks ∙ fine) in (
+        answers,
+        text
+        ∙ table-rows (pieces lineEnd input) (pieces lineEnd body) (ready .line) (ready .second) (ready .lines ∙ ap (pieces lineEnd) (sym body-is))
+        ∙ rw (ready .used, gens),
+      )
 
 -- ---- the call
 
 module _ (input : List ℕ) (k : ℕ) where
-  pub list-short : k < length (sheet input) → writtenOutcome input k ≡ refused 21 []
+  pub list-short : k < length (sheet input) → writtenOutcome input k ≡ refusalOf Refusal.ListLength
   unfolding writtenOutcome
   list-short h = rw (lt-ltb k (length (sheet input)) h)
 
-  pub list-long : length (sheet input) ≤ k → writtenOutcome input k ≡ answer (sheet input)
+  pub list-long : length (sheet input) ≤ k → writtenOutcome input k ≡ answer (pageOf (sheetOutcome input))
   unfolding writtenOutcome
   list-long h = rw (le-ltb k (length (sheet input)) h)
+
+  -- what is told of a page: a table, or a refusal at a line
+  pub page-table : length (sheet input) ≤ k → answer tt ≡ onAnswer done (sheetOutcome input)
+      → answer (tablePage (length (sheet input))) ≡ writtenOutcome input k
+  unfolding sheet
+  page-table h e = go (sheetOutcome input) e ∙ sym (list-long h)
+    where
+      go : (o : Outcome (List ℕ)) → answer tt ≡ onAnswer done o → answer (tablePage (length (printed o))) ≡ answer (pageOf o)
+      go (refused j vs) f = absurd (refused-apart j vs tt (sym f))
+      go (answer text) f = refl
+
+  pub page-refused : length (sheet input) ≤ k → (why : Refusal) (line : ℕ) → refusedAt why line ≡ onAnswer done (sheetOutcome input)
+      → answer (refusalPage (ruleNumber why) line (length (sheet input))) ≡ writtenOutcome input k
+  unfolding sheet
+  page-refused h why line e = go (sheetOutcome input) e ∙ sym (list-long h)
+    where
+      go : (o : Outcome (List ℕ)) → refusedAt why line ≡ onAnswer done o → answer (refusalPage (ruleNumber why) line (length (printed o))) ≡ answer (pageOf o)
+      go (refused j []) f = let z : _≡_ {A = ℕ} 0 1 = cc in absurd (omega arith)
+      go (refused j (l ∷ vs)) f =
+          let x : ruleNumber why ≡ j = cc in
+          let y : line ≡ l = cc in
+          rw (x, y)
+      go (answer text) f = absurd (refused-apart _ _ tt f)
 
 -- what is written at the front of a list
 pub printed-front : (text list : List ℕ) (r : ℕ) → r ≡ length text → take (r - 0) (put 0 text list) ≡ text

@@ -1,8 +1,8 @@
 -- The worked sheet, computed.
 use Prim.Native.Nat.{ℕ}
 use mathlib.Core.Path.{_≡_, refl}
-use mathlib.Core.Bool.{Bool, true}
-use mathlib.Core.List.{List, [], _∷_, _++_}
+use mathlib.Core.Bool.{true}
+use mathlib.Core.List.{List, [], _∷_}
 use Rattle.pauli_word.specs.Word.{weight}
 use Rattle.pauli_word.specs.Text.{lettersAlone}
 use Rattle.action.specs.Arithmetic.{product}
@@ -14,7 +14,8 @@ use Rattle.action.specs.Sector.{keeps}
 use Rattle.text.specs.Text.{pieces, isNumber, numberOf, readOn, isMode, modeOf, decimal, digitsOf}
 use Rattle.text.specs.Parts.{fourFields}
 use Rattle.sheet_lines.specs.Lines.{lineChecks, secondChecks, thirdChecks, bodyChecks, sideChecks, firstPass, shapeOf, generatorsFor}
-use Rattle.sheet_text.specs.Sheet.{sheet, sheetOutcome, joined, row, lineRow, rows, table}
+use Rattle.sheet_rows.specs.Rows.{joined, row, lineRow}
+use Rattle.sheet_text.specs.Sheet.{sheet, sheetOutcome, rows, table}
 
 abbrev pub example : List ℕ
 example =

@@ -1,4 +1,4 @@
 -- What the contracts of this crate say, in the order to read it.
 pub mod Sheet
-pub mod Parts
+pub mod Text
 pub mod Example

@@ -1,19 +1,16 @@
 -- The sheet: a function from the bytes of a sheet to the bytes of its table, or of its refusal.
 use Prim.Native.Nat.{ℕ, _+_, _*_}
-use mathlib.Core.List.{List, [], _∷_, _++_, map}
+use mathlib.Core.List.{List, [], _∷_, _++_}
 use lib.Dec.{ltb}
-use lib.IntN.{ℤ}
-use lib.ListN.{length, getD, take, drop}
+use lib.ListN.{length, getD, drop}
 use Rattle.outcome.specs.declared.Refusal.the-variants as Refusal
 use Rattle.outcome.specs.Outcome.{Outcome, refused, answer, ruleNumber, refusalOf, Check, rule, unless, orElse}
-use Rattle.pauli_word.specs.Word.{Word, weight}
-use Rattle.pauli_word.specs.Text.{readText, spell}
 use Rattle.action.specs.Permutation.{Generator}
-use Rattle.momentum.specs.Calls.{Decision, kept, dropped, Row, decision}
-use Rattle.text.specs.Text.{lineEnd, space, pieces, numberOf, modeOf, decimal, put}
-use Rattle.sheet_lines.specs.Lines.{zeroText, modesOf, generatorsFor, fields, field, lineShape, ruleAt, lineChecks}
+use Rattle.text.specs.Text.{lineEnd, pieces, numberOf, decimal, put}
+use Rattle.sheet_lines.specs.Lines.{modesOf, generatorsFor, field, lineShape, ruleAt, lineChecks}
 use Rattle.sheet_text.specs.declared.Printed.{Printed}
 use Rattle.sheet_text.specs.declared.Printed.the-variants as Printed
+use Rattle.sheet_rows.specs.Rows.{refusedName, joined, refusalLine, lineRow, spread}
 
 -- ---- the words that a table is written with
 
@@ -69,13 +66,13 @@ sheet input = printed (sheetOutcome input)
 
 -- what a sheet prints: a table with its length, or the line of a refusal, with its rule's number, the sheet's line and the length of that one line
 pub data Page : Type 0 where
-  table : ℕ → Page
-  refusal : ℕ → ℕ → ℕ → Page
+  tablePage : ℕ → Page
+  refusalPage : ℕ → ℕ → ℕ → Page
 
 abbrev pub pageOf : Outcome (List ℕ) → Page
-pageOf (answer text) = table (length text)
-pageOf (refused number []) = refusal number 0 (length (printed (refused number [])))
-pageOf (refused number (line ∷ more)) = refusal number line (length (printed (refused number (line ∷ more))))
+pageOf (answer text) = tablePage (length text)
+pageOf (refused number []) = refusalPage number 0 (length (printed (refused number [])))
+pageOf (refused number (line ∷ more)) = refusalPage number line (length (printed (refused number (line ∷ more))))
 
 -- 21: a list that is too short
 abbrev pub tooShort : ℕ → ℕ → Check
@@ -85,8 +82,8 @@ unfoldable pub writtenOutcome : List ℕ → ℕ → Outcome Page
 writtenOutcome input k = unless (tooShort k (length (sheet input)) ∷ []) (answer (pageOf (sheetOutcome input)))
 
 abbrev pub outcomeOfPrinted : Printed → Outcome Page
-outcomeOfPrinted (Printed.Table length) = answer (table length)
-outcomeOfPrinted (Printed.Refused why line length) = answer (refusal (ruleNumber why) line length)
+outcomeOfPrinted (Printed.Table length) = answer (tablePage length)
+outcomeOfPrinted (Printed.Refused why line length) = answer (refusalPage (ruleNumber why) line length)
 outcomeOfPrinted Printed.ListLength = refusalOf Refusal.ListLength
 
 -- the list afterwards

@@ -1,41 +1,41 @@
 // The value lines of a sheet: the first that breaks a rule, and their rows. Whoever calls a function here owes its `requires`.
 ghost use mathlib.Core.Path.{_≡_};
-ghost use Prim.Native.Nat.{_+_, _*_, _≤_};
+ghost use Prim.Native.Nat.{ℕ, _+_, _*_, _≤_};
 ghost use lib.ListN.{length};
+ghost use Rattle.outcome.specs.declared.Refusal.{Refusal};
 ghost use Rattle.outcome.specs.Outcome.{verdict, answer};
 ghost use Rattle.group.specs.Value.{generatorsOf, AcceptedGroup};
 ghost use Rattle.text.specs.Text.{lineEnd, pieces, put};
-ghost use Rattle.sheet_text.specs.Sheet.{bodyChecks, rows, maxSheet};
-ghost use Rattle.sheet_text.specs.Parts.{faultAt};
+ghost use Rattle.sheet_lines.specs.declared.LineVerdict.the-variants as LineVerdict;
+ghost use Rattle.sheet_lines.specs.Lines.{bodyChecks};
+ghost use Rattle.sheet_lines.specs.Parts.{outcomeOfLines};
+ghost use Rattle.sheet_rows.specs.Rows.{spread};
+ghost use Rattle.sheet_text.specs.Sheet.{rows, maxSheet};
 use group::Group;
-
-// The rule that a line breaks, 0 for none, and the line.
-pub struct Fault {
-    pub rule: usize,
-    pub line: usize,
-}
+use outcome::Refusal;
+use outcome::Verdict;
+use sheet_lines::LineVerdict;
 
 // The first value line that breaks a rule; bytes after the last line end are a line of another form.
-pub fn body_fault(used: usize, sites: usize, text: &[u8]) -> Fault
+pub fn body_fault(used: usize, sites: usize, text: &[u8]) -> LineVerdict
     requires { ⌜ (used ≤ 3) × (length (now text) ≤ maxSheet) ⌝ }
-    ensures fault { λ r. ⌜ faultAt (r .rule) (r .line) ≡ verdict (bodyChecks used sites (pieces lineEnd (now (text .entry))) 4) ⌝ }
-    ensures small { λ r. ⌜ (r .rule ≤ 31) × (r .line ≤ maxSheet + 4) ⌝ }
+    ensures fault { λ r. ⌜ outcomeOfLines r ≡ verdict (bodyChecks used sites (pieces lineEnd (now (text .entry))) 4) ⌝ }
+    ensures small { λ r. ⌜ ((why : Refusal) (line : ℕ) → r ≡ LineVerdict.Refused why line → line ≤ maxSheet + 4) ⌝ }
 {
     let mut at = 0;
     let mut line = 4;
     while at < text.len() {
         let end = at + text::read::find(&text[at..], 10);
         if end == text.len() {
-            return Fault { rule: 31, line };
+            return LineVerdict::Refused(Refusal::LineForm, line);
         }
-        let rule = crate::line::value_fault(used, sites, &text[at..end]);
-        if rule != 0 {
-            return Fault { rule, line };
+        if let Verdict::Refused(why) = sheet_lines::line::value_fault(used, sites, &text[at..end]) {
+            return LineVerdict::Refused(why, line);
         }
         at = end + 1;
         line += 1;
     }
-    Fault { rule: 0, line }
+    LineVerdict::Accepted
 }
 
 // The rows of value lines that break no rule, into a list from a place on; the place after them.
@@ -43,7 +43,7 @@ pub fn fill_rows(group: Group, used: usize, text: &[u8], list: &mut [u8], start:
     requires { ⌜ AcceptedGroup group ⌝ }
     requires { ⌜ (used ≡ group .generators) × (used ≤ 3) ⌝ }
     requires { ⌜ verdict (bodyChecks used (group .sites) (pieces lineEnd (now text)) 4) ≡ answer tt ⌝ }
-    requires { ⌜ (length (now text) ≤ maxSheet) × (start + 4 * length (now text) ≤ length (now list)) ⌝ }
+    requires { ⌜ (length (now text) ≤ maxSheet) × (start + spread * length (now text) ≤ length (now list)) ⌝ }
     ensures place { λ r. ⌜ r ≡ start + length (rows used (generatorsOf group) (pieces lineEnd (now (text .entry)))) ⌝ }
     ensures list { λ _. ⌜ now (list .exit) ≡ put start (rows used (generatorsOf group) (pieces lineEnd (now (text .entry)))) (now (list .entry)) ⌝ }
     ensures room { λ r. ⌜ r ≤ length (now (list .entry)) ⌝ }
@@ -52,7 +52,7 @@ pub fn fill_rows(group: Group, used: usize, text: &[u8], list: &mut [u8], start:
     let mut place = start;
     while at < text.len() {
         let end = at + text::read::find(&text[at..], 10);
-        place = crate::row::write_row(group, used, &text[at..end], list, place);
+        place = sheet_rows::write_row(group, used, &text[at..end], list, place);
         at = end + 1;
     }
     place

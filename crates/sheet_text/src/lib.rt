@@ -2,19 +2,18 @@
 // then a line for each word with its modes; the table has a row for each of those, or one line that says which rule a line breaks.
 //
 // The call asks nothing of its caller. A list that is too short is refused and stays as it was.
-pub mod body;
-pub mod head;
-pub mod line;
-pub mod row;
+mod body;
 
 ghost use mathlib.Core.Path.{_≡_};
 ghost use lib.ListN.{length};
-ghost use Rattle.outcome.specs.Outcome.{onAnswer};
-ghost use Rattle.text.specs.Text.{put};
-ghost use Rattle.sheet_text.specs.Sheet.{sheet, joined, refusedName, maxTable, writtenOutcome, outcomeOfPrinted, listAfter};
-ghost use Rattle.text.specs.Text.{decimal};
-ghost use Prim.Native.Nat.{_<_, _≤_};
-ghost use mathlib.Core.List.{[], _∷_};
+ghost use Prim.Native.Nat.{_<_};
+ghost use Rattle.outcome.specs.Outcome.{onAnswer, done, ruleNumber};
+ghost use Rattle.text.specs.Text.{maxWritten, put};
+ghost use Rattle.sheet_rows.specs.Rows.{refusalLine};
+ghost use Rattle.sheet_lines.specs.Parts.{outcomeOfLines};
+ghost use Rattle.sheet_text.specs.Sheet.{sheet, sheetOutcome, maxTable, writtenOutcome, outcomeOfPrinted, listAfter};
+use outcome::Refusal;
+use sheet_lines::LineVerdict;
 
 // The most bytes of a sheet.
 pub const MAX_SHEET: usize = 65536;
@@ -24,59 +23,77 @@ pub const MAX_TABLE: usize = 262208;
 
 // What printing a sheet comes to.
 pub enum Printed {
-    // The table, or the line of a refused sheet, has this length and stands at the front of the list.
-    Length(usize),
-    // 21: the list is too short for it, and is as it was.
+    // A table of this length stands at the front of the list.
+    Table(usize),
+    // The sheet breaks a rule at a line, 0 for the sheet as a whole; the one line that says so has this length and stands at the front of the list.
+    Refused(Refusal, usize, usize),
+    // 21: the list is too short for what the sheet prints, and is as it was.
     ListLength,
 }
 
 // What a sheet prints, at the front of a list; the rest of the list stays.
 pub fn sheet_text(input: &[u8], list: &mut [u8]) -> Printed
-    ensures answer { λ r. ⌜ outcomeOfPrinted r ≡ onAnswer length (writtenOutcome (now (input .entry)) (length (now (list .entry)))) ⌝ }
-    ensures list { λ _. ⌜ now (list .exit) ≡ listAfter (now (list .entry)) (writtenOutcome (now (input .entry)) (length (now (list .entry)))) ⌝ }
+    ensures answer { λ r. ⌜ outcomeOfPrinted r ≡ writtenOutcome (now (input .entry)) (length (now (list .entry))) ⌝ }
+    ensures list { λ _. ⌜ now (list .exit) ≡ listAfter (sheet (now (input .entry))) (now (list .entry)) (writtenOutcome (now (input .entry)) (length (now (list .entry)))) ⌝ }
 {
     let mut text = [0u8; MAX_TABLE];
-    let length = print_sheet(input, &mut text);
+    let page = print_sheet(input, &mut text);
+    let length = page.length;
     if list.len() < length {
         return Printed::ListLength;
     }
     text::write::append(list, 0, &text[0..length]);
-    Printed::Length(length)
+    let answer = page.answer;
+    match answer {
+        LineVerdict::Accepted => Printed::Table(length),
+        LineVerdict::Refused(why, line) => Printed::Refused(why, line, length),
+    }
 }
 
-// The same at the front of a list that suffices; its length.
-fn print_sheet(input: &[u8], list: &mut [u8]) -> usize
+// What the checks of a sheet come to, and the length of what it prints.
+struct Page {
+    answer: LineVerdict,
+    length: usize,
+}
+
+// The same at the front of a list that suffices.
+fn print_sheet(input: &[u8], list: &mut [u8]) -> Page
     requires { ⌜ length (now list) ≡ maxTable ⌝ }
-    ensures place { λ r. ⌜ r ≡ length (sheet (now (input .entry))) ⌝ }
+    ensures answer { λ r. ⌜ outcomeOfLines (r .answer) ≡ onAnswer done (sheetOutcome (now (input .entry))) ⌝ }
+    ensures place { λ r. ⌜ r .length ≡ length (sheet (now (input .entry))) ⌝ }
     ensures list { λ _. ⌜ now (list .exit) ≡ put 0 (sheet (now (input .entry))) (now (list .entry)) ⌝ }
 {
     if MAX_SHEET < input.len() {
-        return refusal(list, 30, 0);
+        return refused_page(list, Refusal::SheetLength, 0);
     }
-    let head = head::read_head(input);
-    if head.rule != 0 {
-        return refusal(list, head.rule, head.line);
+    let head = sheet_lines::head::read_head(input);
+    let answer = head.answer;
+    if let LineVerdict::Refused(why, line) = answer {
+        return refused_page(list, why, line);
     }
     let group = head.group;
     let used = head.used;
     let start = head.body;
     let body = &input[start..];
-    let fault = body::body_fault(used, group.sites, body);
-    if fault.rule != 0 {
-        return refusal(list, fault.rule, fault.line);
+    if let LineVerdict::Refused(why, line) = body::body_fault(used, group.sites, body) {
+        return refused_page(list, why, line);
     }
     let place = text::write::append(list, 0, b"word rep index orbit weight keep\n");
-    body::fill_rows(group, used, body, list, place)
+    Page {
+        answer: LineVerdict::Accepted,
+        length: body::fill_rows(group, used, body, list, place),
+    }
 }
 
 // The line of a refused sheet.
-fn refusal(list: &mut [u8], rule: usize, line: usize) -> usize
-    requires { ⌜ (rule < 10000000) × (line < 10000000) × (length (now list) ≡ maxTable) ⌝ }
-    ensures place { λ r. ⌜ r ≡ length (joined (refusedName ∷ decimal rule ∷ decimal line ∷ [])) ⌝ }
-    ensures list { λ _. ⌜ now (list .exit) ≡ put 0 (joined (refusedName ∷ decimal rule ∷ decimal line ∷ [])) (now (list .entry)) ⌝ }
+fn refused_page(list: &mut [u8], why: Refusal, line: usize) -> Page
+    requires { ⌜ (line < maxWritten) × (length (now list) ≡ maxTable) ⌝ }
+    ensures answer { λ r. ⌜ r .answer ≡ LineVerdict.Refused why line ⌝ }
+    ensures place { λ r. ⌜ r .length ≡ length (refusalLine (ruleNumber why) line) ⌝ }
+    ensures list { λ _. ⌜ now (list .exit) ≡ put 0 (refusalLine (ruleNumber why) line) (now (list .entry)) ⌝ }
 {
-    let a = text::write::append(list, 0, b"refused");
-    let b = row::append_number(list, a, rule);
-    let c = row::append_number(list, b, line);
-    text::write::append(list, c, b"\n")
+    Page {
+        answer: LineVerdict::Refused(why, line),
+        length: sheet_rows::refusal_line(list, why, line),
+    }
 }

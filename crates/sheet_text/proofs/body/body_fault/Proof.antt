@@ -7,13 +7,19 @@ use native.Mathlib.Omega.{arith}
 use denote.Ref.{now}
 use lib.ListN.{length, take, drop, length-drop}
 use lib.Seq.{drop-drop}
-use Rattle.outcome.specs.Outcome.{refused, answer, verdict}
+use Rattle.outcome.specs.Outcome.{verdict, outcomeOfVerdict}
 use Rattle.pauli_word.proofs.Words.{rest-part}
 use Rattle.text.specs.Text.{lineEnd, before, pieces}
 use Rattle.text.proofs.Pieces.{before-short}
-use Rattle.sheet_text.specs.Sheet.{valueChecks, bodyChecks}
-use Rattle.sheet_text.specs.Parts.{faultAt}
-use Rattle.sheet_text.proofs.Bodies.{place-unended, place-end, place-broken, place-passed, fault-small}
+use Rattle.outcome.specs.declared.Refusal.{Refusal}
+use Rattle.outcome.specs.declared.Verdict.{Verdict}
+use Rattle.outcome.specs.declared.Verdict.the-variants as Verdict
+use Rattle.sheet_lines.specs.declared.LineVerdict.the-variants as LineVerdict
+use Rattle.sheet_lines.specs.Lines.{bodyChecks}
+use Rattle.sheet_lines.specs.Parts.{atLine, refusedAt}
+use Rattle.sheet_text.specs.Sheet.{maxSheet}
+use borrow.Author.Needs.{needs}
+use Rattle.sheet_text.proofs.Bodies.{place-unended, place-end, place-broken, place-passed}
 use Rattle.sheet_text.proofs.body.body_fault.Statement.{statement}
 use Rattle.sheet_text.proofs.body.body_fault.Tie as tie
 
@@ -62,13 +68,18 @@ ends c = omega (arith, within (c .before), c .if1 .left)
 add-end : tie.Need-add-end Inv-loop μ-loop
 add-end c = omega (arith, within c, c .before .before .before .before .before .pre .1)
 
+-- a line number stays small
+line-small : {at line : ℕ} (text : List ℕ) → at ≤ length text → line ≤ at + 4 → length text ≤ maxSheet → {why : Refusal}
+    → (w : Refusal) (k : ℕ) → LineVerdict.Refused why line ≡ LineVerdict.Refused w k → k ≤ maxSheet + 4
+line-small {at} {line} text inside few short w k e = let same : line ≡ k = cc in omega arith
+
 returns : tie.Need-returns Inv-loop μ-loop
 returns c =
     let s = c .before .before .before .before .before .before in
     let a = s .args in
     let l = c .before .before .before .before .loop in
     let e = place-unended (a .used) (a .sites) (now (a .text)) (l .at) (c .before .find .result) (l .line) (found (c .before)) (c .if1 .taken) (c .before .before .before .loop-test .taken) in
-    (sym (l .inv .2 ∙ e), (omega arith, omega (arith, l .inv .0, l .inv .1, s .pre .1)))
+    (sym (l .inv .2 ∙ e), line-small (now (a .text)) (l .inv .0) (l .inv .1) (s .pre .1))
 
 sub-value-fault : tie.Need-sub-value-fault Inv-loop μ-loop
 sub-value-fault c = omega arith
@@ -82,46 +93,71 @@ part-value-fault-end c = within (c .before)
 value-fault-requires : tie.Need-value-fault-requires Inv-loop μ-loop
 value-fault-requires c κs = c .before .before .before .before .before .before .before .pre .0
 
+enum-known-why : tie.Need-enum-known-why Inv-loop μ-loop
+enum-known-why c = search needs
+
+-- the line, told
+module _ (v : tie.After-value-fault Inv-loop μ-loop) where
+  abbrev s : tie.Start Inv-loop μ-loop
+  s = v .before .before .before .before .before .before .before .before
+
+  abbrev l : tie.At-loop Inv-loop μ-loop
+  l = v .before .before .before .before .before .before
+
+  abbrev r : ℕ
+  r = v .before .before .before .find .result
+
+  line-ends : l .loop .at + r < length (now (s .args .text))
+  line-ends = ends (v .before .before)
+
+  line-broken : (why : Refusal) → v .value-fault .result ≡ Verdict.Refused why
+      → refusedAt why (l .loop .line) ≡ verdict (bodyChecks (s .args .used) (s .args .sites) (pieces lineEnd (now (s .args .text))) 4)
+  line-broken why e =
+      place-broken (s .args .used) (s .args .sites) (now (s .args .text)) (l .loop .at) r (l .loop .line) (found (v .before .before .before)) line-ends why
+      (ap (λ (x : Verdict). atLine (l .loop .line) (outcomeOfVerdict x)) (sym e) ∙ v .value-fault .ensures (l .loop .line))
+      ∙ sym (l .loop .inv .2)
+
+  line-passed : v .value-fault .result ≡ Verdict.Accepted
+      → verdict (bodyChecks (s .args .used) (s .args .sites) (pieces lineEnd (now (s .args .text))) 4)
+      ≡ verdict (bodyChecks (s .args .used) (s .args .sites) (pieces lineEnd (drop (l .loop .at + r + 1) (now (s .args .text)))) (l .loop .line + 1))
+  line-passed e =
+      l .loop .inv .2
+      ∙ place-passed (s .args .used) (s .args .sites) (now (s .args .text)) (l .loop .at) r (l .loop .line) (found (v .before .before .before)) line-ends
+      (ap (λ (x : Verdict). atLine (l .loop .line) (outcomeOfVerdict x)) (sym e) ∙ v .value-fault .ensures (l .loop .line))
+
 returns-2 : tie.Need-returns-2 Inv-loop μ-loop
 returns-2 c =
-    let s = c .before .before .before .before .before .before .before .before .before in
-    let a = s .args in
-    let l = c .before .before .before .before .before .before .before .loop in
-    let f = c .before .value-fault .ensures in
-    let r = c .before .before .before .before .find .result in (
-      place-broken (a .used) (a .sites) (now (a .text)) (l .at) r (l .line) (c .before .value-fault .result) (found (c .before .before .before .before)) (ends (c .before .before .before)) (f (l .line))
-          (c .if2 .taken)
-          ∙ sym (l .inv .2),
-      (fault-small _ (a .used) (a .sites) (l .line) _ (f (l .line)), omega (arith, l .inv .0, l .inv .1, s .pre .1)),
-    )
+    let v = c .before .before .before in
+    let i = l v .loop .inv in
+    (line-broken v (c .before .why .given .0 .0) (c .before .why .given .1), line-small (now (s v .args .text)) (i .0) (i .1) (s v .pre .1))
+
+enum-told : tie.Need-enum-told Inv-loop μ-loop
+enum-told c = search needs
 
 add-at : tie.Need-add-at Inv-loop μ-loop
-add-at c = omega (arith, ends (c .before .before .before), c .before .before .before .before .before .before .before .before .before .pre .1)
+add-at c = let v = c .before .before in omega (arith, line-ends v, s v .pre .1)
 
 add-line : tie.Need-add-line Inv-loop μ-loop
-add-line c = omega (arith, c .before .before .before .before .before .before .before .loop .inv .0, c .before .before .before .before .before .before .before .loop .inv .1, c .before .before .before .before .before .before .before .before .before .pre .1)
+add-line c = let v = c .before .before in omega (arith, l v .loop .inv .0, l v .loop .inv .1, s v .pre .1)
 
 loop-less : tie.Need-loop-less Inv-loop μ-loop
-loop-less c = omega (arith, ends (c .before .before .before))
+loop-less c = omega (arith, line-ends (c .before .before))
 
 loop-again : tie.Need-loop-again Inv-loop μ-loop
 loop-again c =
-    let a = c .before .before .before .before .before .before .before .before .before .args in
-    let l = c .before .before .before .before .before .before .before .loop in
-    let r = c .before .before .before .before .find .result in (
-      omega (arith, ends (c .before .before .before)),
-      omega (arith, l .inv .1),
-      l .inv .2
-          ∙ place-passed (a .used) (a .sites) (now (a .text)) (l .at) r (l .line) (c .before .value-fault .result) (found (c .before .before .before .before)) (ends (c .before .before .before))
-          (c .before .value-fault .ensures (l .line)) (c .if2 .left),
-    )
+    let v = c .before .before in
+    (omega (arith, line-ends v), omega (arith, l v .loop .inv .1), line-passed v (c .enum-told .given .1))
+
+-- an answer is no refusal
+accepted-apart : (why : Refusal) (line : ℕ) → LineVerdict.Accepted ≡ LineVerdict.Refused why line → ⊥
+accepted-apart why line e = let z : _≡_ {A = ℕ} 0 1 = cc in omega arith
 
 returns-3 : tie.Need-returns-3 Inv-loop μ-loop
 returns-3 c =
     let s = c .before .before .before in
     let a = s .args in
     let l = c .before .loop in
-    (sym (l .inv .2 ∙ place-end (a .used) (a .sites) (now (a .text)) (l .at) (l .line) (c .loop-test .left)), (omega arith, omega (arith, l .inv .0, l .inv .1, s .pre .1)))
+    (sym (l .inv .2 ∙ place-end (a .used) (a .sites) (now (a .text)) (l .at) (l .line) (c .loop-test .left)), λ why line e. absurd (accepted-apart why line e))
 
 pub body-fault-spec : {M : Type 1} → statement M
 body-fault-spec =
@@ -140,7 +176,9 @@ body-fault-spec =
     part-value-fault-start
     part-value-fault-end
     value-fault-requires
+    enum-known-why
     returns-2
+    enum-told
     add-at
     add-line
     loop-less

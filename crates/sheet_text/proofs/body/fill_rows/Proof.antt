@@ -1,20 +1,16 @@
 -- `body::fill_rows` meets its contract. The loop's invariant: the rows of the lines before this place are written (`Filling`).
-use Prim.Native.Nat.{ℕ, _+_, _-_, _*_, _≤_, _<_}
-use mathlib.Core.Path.{_≡_, sym, ap, _∙_}
+use Prim.Native.Nat.{ℕ, _+_, _-_, _<_}
+use mathlib.Core.Path.{_≡_, ap, _∙_}
 use mathlib.Core.List.{List}
 use native.Mathlib.Omega.{arith}
 use denote.Ref.{now}
-use borrow.Author.Needs.{needs}
-use borrow.Author.Tests.{leb-true}
-use lib.ListN.{length, take, drop, length-drop}
-use Rattle.pauli_word.specs.Limits.{maxSites}
+use lib.ListN.{length, take, drop}
 use Rattle.pauli_word.proofs.Words.{rest-part}
 use Rattle.elements.specs.Tables.{Tables}
 use Rattle.group.specs.Value.{generatorsOf}
 use Rattle.group.proofs.Accepted.{accepted-tables}
 use Rattle.text.specs.Text.{lineEnd, before}
-use Rattle.sheet_text.specs.Sheet.{lineRow}
-use Rattle.sheet_text.proofs.Widths.{lineRow-short}
+use Rattle.sheet_rows.proofs.Widths.{lineRow-short}
 use Rattle.sheet_text.proofs.Bodies.{line-long, Filling, filling-start, filling-length, filling-ends, filling-fine, filling-next, filling-end}
 use Rattle.sheet_text.proofs.body.fill_rows.Statement.{statement}
 use Rattle.sheet_text.proofs.body.fill_rows.Tie as tie
@@ -27,7 +23,7 @@ abbrev μ-loop : tie.MeasureT-loop
 
 -- the tables of an accepted group
 tables : (c : tie.Start Inv-loop μ-loop) → let g = c .args .group in Tables (g .generators) (g .sites) (g .targets) (g .orders)
-tables c = accepted-tables (c .args .group) (c .pre .0) (search needs) (search needs)
+tables c = accepted-tables (c .args .group) (c .pre .0)
 
 loop-holds : tie.Need-loop-holds Inv-loop μ-loop
 loop-holds c =
