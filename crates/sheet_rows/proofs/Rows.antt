@@ -34,7 +34,7 @@ use Rattle.action.proofs.Canonical.{least-length, back-below}
 use Rattle.permutation.specs.Limits.{maxOrder}
 use Rattle.momentum.specs.declared.inner.Placement.{Placement}
 use Rattle.momentum.specs.declared.inner.Placement.the-variants as Placement
-use Rattle.text.specs.Text.{lineEnd, space, isMode, modeOf, decimal, put, maxWritten, maxDigits}
+use Rattle.text.specs.Text.{lineEnd, space, isMode, modeOf, decimal, put, maxWritten}
 use Rattle.text.specs.Parts.{fourFields, fieldLength, fieldsRead}
 use Rattle.text.specs.declared.read.Fields.{Fields}
 use Rattle.text.specs.declared.read.Fields.the-variants as Fields

@@ -7,7 +7,7 @@ use borrow.Author.Needs.{needs}
 use denote.Ref.{now}
 use lib.ListN.{length}
 use Rattle.text.proofs.Decimals.{written-short}
-use Rattle.text.specs.Text.{space, decimal, maxDigits}
+use Rattle.text.specs.Text.{space, decimal}
 use Rattle.sheet_rows.specs.Rows.{numberRoom}
 use Rattle.sheet_rows.proofs.Rows.{Writes, writes-room, writes-then, number-writes, writes-as}
 use Rattle.sheet_rows.proofs.append_two.Statement.{statement}

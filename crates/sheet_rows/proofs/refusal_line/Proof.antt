@@ -1,6 +1,6 @@
 -- `refusal_line` meets its contract: the name, two numbers and the line's end, one after the other (`writes-then`).
-use Prim.Native.Nat.{_+_, _*_, _≤_, _<_}
-use mathlib.Core.Path.{_≡_, ap, _∙_}
+use Prim.Native.Nat.{_+_, _*_, _≤_}
+use mathlib.Core.Path.{_≡_}
 use mathlib.Core.List.{_∷_, _++_}
 use native.Mathlib.Omega.{arith}
 use borrow.Author.Needs.{needs}
@@ -8,8 +8,8 @@ use denote.Ref.{now}
 use lib.ListN.{length}
 use Rattle.outcome.specs.Outcome.{ruleNumber}
 use Rattle.outcome.proofs.Outcomes.{number-small}
-use Rattle.text.specs.Text.{space, decimal, maxWritten}
-use Rattle.sheet_rows.specs.Rows.{refusedName, refusalLine, numberRoom}
+use Rattle.text.specs.Text.{space, decimal}
+use Rattle.sheet_rows.specs.Rows.{refusedName, numberRoom}
 use Rattle.sheet_rows.proofs.Rows.{Writes, writes-room, writes-then, text-writes, writes-as, two-short, refusal-pieces}
 use Rattle.sheet_rows.proofs.refusal_line.Statement.{statement}
 use Rattle.sheet_rows.proofs.refusal_line.Tie as tie

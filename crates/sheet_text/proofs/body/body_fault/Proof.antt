@@ -1,12 +1,10 @@
 -- `body::body_fault` meets its contract. The loop's invariant: the checks of all value lines come to those of the lines from this place on.
-use Prim.Native.Nat.{ℕ, suc, _+_, _-_, _≤_, _<_}
+use Prim.Native.Nat.{ℕ, _+_, _-_, _≤_, _<_}
 use mathlib.Core.Path.{_≡_, refl, sym, ap, _∙_}
-use mathlib.Core.List.{List, [], _∷_}
-use native.Mathlib.Numerals.{add-one}
+use mathlib.Core.List.{List}
 use native.Mathlib.Omega.{arith}
 use denote.Ref.{now}
-use lib.ListN.{length, take, drop, length-drop}
-use lib.Seq.{drop-drop}
+use lib.ListN.{length, drop, length-drop}
 use Rattle.outcome.specs.Outcome.{verdict, outcomeOfVerdict}
 use Rattle.pauli_word.proofs.Words.{rest-part}
 use Rattle.text.specs.Text.{lineEnd, before, pieces}
