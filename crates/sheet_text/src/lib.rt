@@ -37,13 +37,13 @@ pub fn sheet_text(input: &[u8], list: &mut [u8]) -> Printed
     ensures list { λ _. ⌜ now (list .exit) ≡ listAfter (sheet (now (input .entry))) (now (list .entry)) (writtenOutcome (now (input .entry)) (length (now (list .entry)))) ⌝ }
 {
     let mut text = [0u8; MAX_TABLE];
-    let page = print_sheet(input, &mut text);
-    let length = page.length;
+    let written = print_sheet(input, &mut text);
+    let length = written.length;
     if list.len() < length {
         return Printed::ListLength;
     }
     text::write::append(list, 0, &text[0..length]);
-    let answer = page.answer;
+    let answer = written.answer;
     match answer {
         LineVerdict::Accepted => Printed::Table(length),
         LineVerdict::Refused(why, line) => Printed::Refused(why, line, length),
@@ -51,48 +51,48 @@ pub fn sheet_text(input: &[u8], list: &mut [u8]) -> Printed
 }
 
 // What the checks of a sheet come to, and the length of what it prints.
-struct Page {
+struct Written {
     answer: LineVerdict,
     length: usize,
 }
 
 // The same at the front of a list that suffices.
-fn print_sheet(input: &[u8], list: &mut [u8]) -> Page
+fn print_sheet(input: &[u8], list: &mut [u8]) -> Written
     requires { ⌜ length (now list) ≡ maxTable ⌝ }
     ensures answer { λ r. ⌜ outcomeOfLines (r .answer) ≡ onAnswer done (sheetOutcome (now (input .entry))) ⌝ }
     ensures place { λ r. ⌜ r .length ≡ length (sheet (now (input .entry))) ⌝ }
     ensures list { λ _. ⌜ now (list .exit) ≡ put 0 (sheet (now (input .entry))) (now (list .entry)) ⌝ }
 {
     if MAX_SHEET < input.len() {
-        return refused_page(list, Refusal::SheetLength, 0);
+        return refused_line(list, Refusal::SheetLength, 0);
     }
     let head = sheet_lines::head::read_head(input);
     let answer = head.answer;
     if let LineVerdict::Refused(why, line) = answer {
-        return refused_page(list, why, line);
+        return refused_line(list, why, line);
     }
     let group = head.group;
     let used = head.used;
     let start = head.body;
     let body = &input[start..];
     if let LineVerdict::Refused(why, line) = body::body_fault(used, group.sites, body) {
-        return refused_page(list, why, line);
+        return refused_line(list, why, line);
     }
     let place = text::write::append(list, 0, b"word rep index orbit weight keep\n");
-    Page {
+    Written {
         answer: LineVerdict::Accepted,
         length: body::fill_rows(group, used, body, list, place),
     }
 }
 
 // The line of a refused sheet.
-fn refused_page(list: &mut [u8], why: Refusal, line: usize) -> Page
+fn refused_line(list: &mut [u8], why: Refusal, line: usize) -> Written
     requires { ⌜ (line < maxWritten) × (length (now list) ≡ maxTable) ⌝ }
     ensures answer { λ r. ⌜ r .answer ≡ LineVerdict.Refused why line ⌝ }
     ensures place { λ r. ⌜ r .length ≡ length (refusalLine (ruleNumber why) line) ⌝ }
     ensures list { λ _. ⌜ now (list .exit) ≡ put 0 (refusalLine (ruleNumber why) line) (now (list .entry)) ⌝ }
 {
-    Page {
+    Written {
         answer: LineVerdict::Refused(why, line),
         length: sheet_rows::refusal_line(list, why, line),
     }

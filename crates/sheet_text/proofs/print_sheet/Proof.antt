@@ -17,22 +17,23 @@ use Rattle.sheet_lines.specs.declared.LineVerdict.the-variants as LineVerdict
 use Rattle.sheet_lines.specs.Lines.{bodyChecks, lineChecks}
 use Rattle.sheet_lines.specs.Parts.{refusedAt, outcomeOfLines, Ready}
 use Rattle.sheet_rows.specs.Rows.{refusalLine}
-use Rattle.sheet_text.specs.Sheet.{tableNames, maxSheet, rows as rowsOf, sheet, sheetOutcome, Page}
+use Rattle.sheet_text.specs.Sheet.{tableNames, maxSheet, rows as rowsOf, sheet, sheetOutcome}
+use Rattle.sheet_text.specs.declared.Written.{Written}
 use Rattle.sheet_text.proofs.Sheets.{Prints, sheet-long, sheet-broken, body, ready-few, ready-accepted, ready-count, ready-short, ready-checks, ready-prints}
 use Rattle.sheet_text.proofs.print_sheet.Statement.{statement}
 use Rattle.sheet_text.proofs.print_sheet.Tie as tie
 
 -- a page with the line of a refusal is what the sheet prints
 refused-prints :
-    (input list next : List ℕ) (why : Refusal) (line : ℕ) (p : Page) → Prints input (LineVerdict.Refused why line) (refusalLine (ruleNumber why) line)
+    (input list next : List ℕ) (why : Refusal) (line : ℕ) (p : Written) → Prints input (LineVerdict.Refused why line) (refusalLine (ruleNumber why) line)
     → (p .answer ≡ LineVerdict.Refused why line)
     × ((p .length ≡ length (refusalLine (ruleNumber why) line)) × (next ≡ put 0 (refusalLine (ruleNumber why) line) list))
     → (outcomeOfLines (p .answer) ≡ onAnswer done (sheetOutcome input)) × ((p .length ≡ length (sheet input)) × (next ≡ put 0 (sheet input) list))
 refused-prints input list next why line p prints r =
     (ap outcomeOfLines (r .0) ∙ prints .0, (r .1 .0 ∙ sym (ap length (prints .1)), r .1 .1 ∙ sym (ap (λ (t : List ℕ). put 0 t list) (prints .1))))
 
-refused-page-requires : tie.Need-refused-page-requires
-refused-page-requires c κs = search needs
+refused-line-requires : tie.Need-refused-line-requires
+refused-line-requires c κs = search needs
 
 same-length : tie.Need-same-length
 same-length c = search needs
@@ -40,7 +41,7 @@ same-length c = search needs
 returns : tie.Need-returns
 returns c =
     let a = c .before .before .before .before .before .before .before .args in
-    let r = c .before .before .refused-page in
+    let r = c .before .before .refused-line in
     refused-prints (now (a .input)) (now (a .list)) (r .last .0) Refusal.SheetLength 0 (r .result)
     (sheet-long (now (a .input)) (c .before .before .before .before .if1 .taken)) (r .ensures)
 
@@ -65,8 +66,8 @@ broken : (c : tie.After-answer) → let h = c .before .before in
     (refusedAt (c .answer .given .0 .0) (c .answer .given .0 .1 .0) ≡ verdict (lineChecks (pieces lineEnd (text h)))) × (c .answer .given .0 .1 .0 ≤ 3)
 broken c = c .before .before .read-head .ensures .0 _ _ (c .answer .given .1)
 
-refused-page-requires-2 : tie.Need-refused-page-requires-2
-refused-page-requires-2 c κs =
+refused-line-requires-2 : tie.Need-refused-line-requires-2
+refused-line-requires-2 c κs =
     let w = c .before .before in
     (omega (arith, broken w .1), start (w .before .before) .pre)
 
@@ -77,7 +78,7 @@ returns-2 : tie.Need-returns-2
 returns-2 c =
     let w = c .before .before .before .before .before in
     let h = w .before .before in
-    let r = c .before .before .refused-page2 in
+    let r = c .before .before .refused-line2 in
     let why = w .answer .given .0 .0 in
     let line = w .answer .given .0 .1 .0 in
     refused-prints (text h) (now (start h .args .list)) (r .last .0) why line (r .result) (sheet-broken (text h) (short h) why line (broken w .0)) (r .ensures)
@@ -125,8 +126,8 @@ value-broken c =
       f .body-fault .ensures .1 _ _ (c .why .given .1),
     )
 
-refused-page-requires-3 : tie.Need-refused-page-requires-3
-refused-page-requires-3 c κs =
+refused-line-requires-3 : tie.Need-refused-line-requires-3
+refused-line-requires-3 c κs =
     let w = c .before .before in
     (omega (arith, value-broken w .1), start (heading (told (w .before .before))) .pre)
 
@@ -137,7 +138,7 @@ returns-3 : tie.Need-returns-3
 returns-3 c =
     let w = c .before .before .before .before .before in
     let h = heading (told (w .before .before)) in
-    let r = c .before .before .refused-page3 in
+    let r = c .before .before .refused-line3 in
     let why = w .why .given .0 .0 in
     let line = w .why .given .0 .1 .0 in
     refused-prints (text h) (now (start h .args .list)) (r .last .0) why line (r .result) (sheet-broken (text h) (short h) why line (value-broken w .0)) (r .ensures)
@@ -218,12 +219,12 @@ pub print-sheet-spec : {M : Type 1} → statement M
 print-sheet-spec =
     tie.close
     (tie.spec
-    refused-page-requires
+    refused-line-requires
     same-length
     returns
     read-head-requires
     enum-known-answer
-    refused-page-requires-2
+    refused-line-requires-2
     same-length-2
     returns-2
     enum-told
@@ -232,7 +233,7 @@ print-sheet-spec =
     part-body-end
     body-fault-requires
     enum-known-why
-    refused-page-requires-3
+    refused-line-requires-3
     same-length-3
     returns-3
     enum-told-2
