@@ -1,19 +1,15 @@
-// Runs worked examples through the calls and prints what each comes to; the file `stdout` beside src/ is what it must print.
-mod cycles;
+// Runs worked examples of groups and prints what each call comes to; the file `stdout` beside src/ is what it must print.
 mod groups;
-mod words;
 
 fn main() {
-    words::texts();
-    words::lengths();
-    words::refusals();
-    words::order();
-    groups::generators();
-    groups::faults();
+    groups::accepted();
+    groups::counts();
+    groups::targets();
+    groups::orders();
+    groups::pairs();
     groups::limits();
     groups::lattices();
+    groups::unequal();
     groups::indices();
-    groups::least_words();
-    groups::refusals();
-    groups::walks();
+    groups::values();
 }

@@ -1,4 +1,7 @@
-// The answers of calls that take a group: a number, done, or a refusal by its number. Names with `_on` end no line.
+// What calls come to: a number, done, or a refusal. Names with `_on` end no line.
+use outcome::Number;
+use outcome::Refusal;
+use outcome::Verdict;
 
 pub fn number(n: Number) {
     number_on(n);
@@ -8,39 +11,60 @@ pub fn number(n: Number) {
 pub fn number_on(n: Number) {
     match n {
         Number::Value(k) => crate::number(k),
-        Number::Refused(why) => one(rule(why)),
+        Number::Refused(why) => refused_on(why),
     }
 }
 
-pub fn done(d: Done) {
+pub fn done(d: Verdict) {
     done_on(d);
     crate::text(b"\n");
 }
 
-pub fn done_on(d: Done) {
+pub fn done_on(d: Verdict) {
     match d {
         Verdict::Accepted => crate::text(b"done"),
-        Verdict::Refused(why) => one(rule(why)),
+        Verdict::Refused(why) => refused_on(why),
     }
 }
 
-// A refusal's number, with no line end.
-pub fn one(rule: usize) {
+// A refusal by its number, with the values that it names.
+pub fn refused(why: Refusal) {
+    refused_on(why);
+    crate::text(b"\n");
+}
+
+pub fn refused_on(why: Refusal) {
     crate::text(b"refused ");
-    crate::number(rule);
+    crate::number(outcome::rule_number(why));
+    values(why);
 }
 
-// The number that document 01 gives a refusal.
-pub fn rule(why: Refusal) -> usize {
+fn values(why: Refusal) {
     match why {
-        Refusal::TooManySites => 1,
-        Refusal::InvalidValue => 14,
-        Refusal::WordLength => 15,
-        Refusal::OtherSites => 16,
-        Refusal::BitAboveSites => 17,
-        Refusal::ModeCount => 18,
-        Refusal::IndexRange => 19,
-        Refusal::CounterLength => 20,
-        Refusal::ListLength => 21,
+        Refusal::ZeroOrder(a) | Refusal::PermutationOrderOverflow(a) => one(a),
+        Refusal::LengthMismatch(a, b)
+        | Refusal::PermutationLength(a, b)
+        | Refusal::TargetOutOfRange(a, b)
+        | Refusal::DuplicateTarget(a, b)
+        | Refusal::NonCommuting(a, b) => two(a, b),
+        Refusal::OrderMismatch(a, b, c) => {
+            two(a, b);
+            one(c);
+        }
+        Refusal::NotALetter(a) => {
+            crate::text(b" at");
+            one(a);
+        }
+        _ => {}
     }
+}
+
+fn one(a: usize) {
+    crate::text(b" ");
+    crate::number(a);
+}
+
+fn two(a: usize, b: usize) {
+    one(a);
+    one(b);
 }

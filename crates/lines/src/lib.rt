@@ -1,7 +1,9 @@
-// Lines on standard output, for the example programs: texts, numbers, words and refusals here, the answers of calls in `answers`.
+// Lines on standard output, for the example programs: texts, numbers and words here, lists in `lists`, the answers of calls in `answers`.
 pub mod answers;
+pub mod lists;
 
 use libc::STDOUT_FILENO;
+use outcome::Number;
 
 pub fn text(bytes: &[u8]) {
     io::write_all(STDOUT_FILENO, bytes);
@@ -40,20 +42,4 @@ pub fn spell(n: usize, word: &[u8]) {
     if let Number::Value(k) = answer {
         first(&letters, k);
     }
-}
-
-// A refusal by its number.
-pub fn refused(rule: usize) {
-    text(b"refused ");
-    number(rule);
-    text(b"\n");
-}
-
-// A refusal by its number, with the value that it carries.
-pub fn refused_at(rule: usize, value: usize) {
-    text(b"refused ");
-    number(rule);
-    text(b" at ");
-    number(value);
-    text(b"\n");
 }

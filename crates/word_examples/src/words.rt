@@ -1,4 +1,7 @@
 // Words: texts good and bad, the limits of their length, refused words, the order.
+use lines::answers;
+use outcome::Number;
+use pauli_word::Comparison;
 use pauli_word::Ordering;
 
 // Texts with their letters and weights, and texts with a letter that is none.
@@ -48,11 +51,32 @@ pub fn refusals() {
 
 // The X plane decides before the Z plane.
 pub fn order() {
-    compare(b"IX", b"ZI");
-    compare(b"ZI", b"IX");
-    compare(b"ZX", b"XZ");
-    compare(b"YI", b"XI");
-    compare(b"XIZY", b"XIZY");
+    compare_texts(b"IX", b"ZI");
+    compare_texts(b"ZI", b"IX");
+    compare_texts(b"ZX", b"XZ");
+    compare_texts(b"YI", b"XI");
+    compare_texts(b"XIZY", b"XIZY");
+}
+
+// Zeros, and a word with a Z at site 4: compared on 5 sites, refused on 4. Of two faults the lesser number is told, whichever word has it.
+pub fn compared() {
+    let mut high = [0u8; 64];
+    high[32] = 16;
+    compare_all(&[0u8; 64], &high, &[0u8; 63]);
+}
+
+fn compare_all(zeros: &[u8], high: &[u8], short: &[u8]) {
+    compare(5, b"zeros and Z at site 4", zeros, high);
+    compare(5, b"Z at site 4 and the same", high, high);
+    compare(5, b"Z at site 4 and zeros", high, zeros);
+    compare(256, b"Z at site 4 and zeros", high, zeros);
+    compare(257, b"zeros and the same", zeros, zeros);
+    compare(4, b"63 bytes and 64", short, zeros);
+    compare(4, b"64 bytes and 63", zeros, short);
+    compare(4, b"Z at site 4 and zeros", high, zeros);
+    compare(4, b"zeros and Z at site 4", zeros, high);
+    compare(4, b"Z at site 4 and 63 bytes", high, short);
+    compare(257, b"63 bytes and Z at site 4", short, high);
 }
 
 // What a text is read as: the text of the word again, and its weight.
@@ -69,8 +93,7 @@ fn read(text: &[u8]) {
             lines::text(b", ");
             weigh_on(n, &word);
         }
-        Number::Refused(Refusal::TooManyLetters) => lines::refused(28),
-        Number::Refused(Refusal::NotALetter(at)) => lines::refused_at(29, at),
+        Number::Refused(why) => answers::refused(why),
     }
 }
 
@@ -84,8 +107,7 @@ fn read_length(text: &[u8]) {
     let word = r.word;
     match answer {
         Number::Value(n) => weigh_on(n, &word),
-        Number::Refused(Refusal::TooManyLetters) => lines::refused(28),
-        Number::Refused(Refusal::NotALetter(at)) => lines::refused_at(29, at),
+        Number::Refused(why) => answers::refused(why),
     }
 }
 
@@ -115,10 +137,7 @@ fn spell_on(n: usize, word: &[u8]) {
     let text = r.text;
     match answer {
         Number::Value(k) => lines::first(&text, k),
-        Number::Refused(why) => {
-            lines::text(b"refused ");
-            lines::number(rule(why));
-        }
+        Number::Refused(why) => answers::refused_on(why),
     }
 }
 
@@ -129,29 +148,39 @@ fn weigh_on(n: usize, word: &[u8]) {
             lines::number(k);
             lines::text(b"\n");
         }
-        Number::Refused(why) => lines::refused(rule(why)),
+        Number::Refused(why) => answers::refused(why),
     }
 }
 
-fn rule(why: Refusal) -> usize {
-    match why {
-        Refusal::TooManySites => 1,
-        Refusal::WordLength => 15,
-        Refusal::BitAboveSites => 17,
-    }
-}
-
-fn compare(a: &[u8], b: &[u8]) {
-    let first = pauli_word::from_text(a);
-    let second = pauli_word::from_text(b);
-    let v = first.word;
-    let w = second.word;
+fn compare_texts(a: &[u8], b: &[u8]) {
+    let v = pauli_word::from_text(a).word;
+    let w = pauli_word::from_text(b).word;
     lines::text(b"compare ");
     lines::text(a);
     lines::text(b" ");
     lines::text(b);
     lines::text(b": ");
-    match pauli_word::compare(&v, &w) {
+    compare_on(a.len(), &v, &w);
+}
+
+fn compare(n: usize, name: &[u8], a: &[u8], b: &[u8]) {
+    lines::text(b"compare, ");
+    lines::number(n);
+    lines::text(b" sites, ");
+    lines::text(name);
+    lines::text(b": ");
+    compare_on(n, a, b);
+}
+
+fn compare_on(n: usize, a: &[u8], b: &[u8]) {
+    match pauli_word::compare(n, a, b) {
+        Comparison::Order(order) => show(order),
+        Comparison::Refused(why) => answers::refused(why),
+    }
+}
+
+fn show(order: Ordering) {
+    match order {
         Ordering::Less => lines::text(b"less\n"),
         Ordering::Same => lines::text(b"same\n"),
         Ordering::Greater => lines::text(b"greater\n"),

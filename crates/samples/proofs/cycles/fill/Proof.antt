@@ -4,8 +4,8 @@ use mathlib.Core.Path.{_≡_, refl, _∙_}
 use native.Mathlib.Omega.{arith}
 use lib.ListN.{length, length-set}
 use borrow.Author.Needs.{needs}
-use Rattle.examples.proofs.cycles.fill.Statement.{statement}
-use Rattle.examples.proofs.cycles.fill.Tie as tie
+use Rattle.samples.proofs.cycles.fill.Statement.{statement}
+use Rattle.samples.proofs.cycles.fill.Tie as tie
 
 abbrev Inv-loop : tie.InvT-loop
 Inv-loop list₀ cycles i₀ list i = (i ≤ length list) × (length list ≡ length list₀)
