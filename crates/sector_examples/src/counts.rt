@@ -1,7 +1,8 @@
 // Counts over all words of 2 and of 4 sites: how many representatives each mode list keeps, and how many mode lists keep a word.
-use crate::lists;
 use group::Group;
+use lines::lists;
 use momentum::Sector;
+use pauli_word::Comparison;
 use pauli_word::Ordering;
 ghost use Prim.Native.Nat.{_≤_};
 
@@ -115,11 +116,14 @@ fn size_by(g: Group, n: usize, word: &[u8], modes: &[i32], counter: &mut [u32]) 
 
 // Whether a word is the least of its orbit.
 fn is_representative(g: Group, n: usize, word: &[u8]) -> bool {
-    let least = group::canonicalize_with_index(g, n, word).word;
-    let Ordering::Same = pauli_word::compare(&least, word) else {
+    let least = orbit::canonicalize(g, n, word).word;
+    let Comparison::Order(order) = pauli_word::compare(n, &least, word) else {
         return false;
     };
-    true
+    match order {
+        Ordering::Same => true,
+        Ordering::Less | Ordering::Greater => false,
+    }
 }
 
 // As many mode lists keep a word as its orbit has different words.

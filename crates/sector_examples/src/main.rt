@@ -1,7 +1,5 @@
-// Runs worked examples through the calls of momentum sectors and prints what each comes to; the file `stdout` beside src/ is what it must print.
+// Runs worked examples of momentum sectors and prints what each call comes to; the file `stdout` beside src/ is what it must print.
 mod counts;
-mod lists;
-mod phases;
 mod refusals;
 mod sectors;
 
@@ -11,13 +9,11 @@ fn main() {
     sectors::swaps();
     sectors::no_sites();
     sectors::tori3();
-    phases::chain_numerators();
-    phases::torus_numerators();
-    phases::tables();
     refusals::words();
+    refusals::two_of_words();
     refusals::lists();
-    refusals::numerators();
-    refusals::tables();
+    refusals::two_of_lists();
+    refusals::handed_on();
     counts::chain();
     counts::lists();
     counts::torus();

@@ -1,11 +1,10 @@
 // Words in sectors: a line for a group, a word and modes, with the least word, the counter of the index that leads from there back to the word, and
 // the orbit size where the modes keep the word.
-use crate::lists;
 use group::Group;
 use lines::answers;
+use lines::lists;
 use momentum::InSector;
 use momentum::Sector;
-use pauli_word::Ordering;
 
 // Rings of 4 and of 2 sites.
 pub fn chains() {
@@ -105,7 +104,7 @@ fn report(n: usize, found: InSector, counter: &[u32]) {
     let word = found.word;
     let Sector::Kept(size) = answer else {
         if let Sector::Refused(why) = answer {
-            answers::one(answers::rule(why));
+            answers::refused_on(why);
         } else {
             lines::text(b"dropped");
         }
@@ -132,8 +131,9 @@ fn spell(n: usize, word: &[u8]) {
 
 // Whether the word beside an answer is zeros.
 fn zeros_after(word: &[u8]) {
-    match pauli_word::compare(word, &[0u8; 64]) {
-        Ordering::Same => lines::text(b", the word zeros\n"),
-        Ordering::Less | Ordering::Greater => lines::text(b", the word not zeros\n"),
+    if check::same(word, &[0u8; 64]) {
+        lines::text(b", the word zeros\n");
+    } else {
+        lines::text(b", the word not zeros\n");
     }
 }

@@ -1,7 +1,7 @@
 // Phase numerators: modes at the ends of their range, digits beyond the orders, and tables of all indices.
-use crate::lists;
 use group::Group;
 use lines::answers;
+use lines::lists;
 
 // On a ring of 7 sites: numerators of 7ths.
 pub fn chain_numerators() {
@@ -77,6 +77,6 @@ fn table(name: &[u8], g: Group, modes: &[i32], list: &mut [usize]) {
     lists::modes(modes);
     lines::text(b": table ");
     answers::done_on(momentum::character_table(g, modes, list));
-    lists::numerators(list);
+    lists::numbers(list);
     lines::text(b"\n");
 }
