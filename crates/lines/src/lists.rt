@@ -1,4 +1,4 @@
-// Lists: printed, a space before each entry, and after a call held to what they were before it.
+// Lists: printed, a space before each entry; and after a call, whether they are as they were.
 
 pub fn modes(list: &[i32]) {
     none_of(list.len());
@@ -79,7 +79,7 @@ fn numbers_nine(list: &[usize]) -> bool {
     true
 }
 
-// After a call on a list that was all nines.
+// Of a list that was all nines before.
 pub fn digits_after(list: &[u32]) {
     after(digits_nine(list));
 }
@@ -88,7 +88,7 @@ pub fn numbers_after(list: &[usize]) {
     after(numbers_nine(list));
 }
 
-// After a call on bytes that were others, or these.
+// Of a list of bytes that were these before.
 pub fn bytes_after(list: &[u8], before: &[u8]) {
     after(check::same(list, before));
 }

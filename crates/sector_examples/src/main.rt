@@ -1,5 +1,4 @@
 // Runs worked examples of momentum sectors and prints what each call comes to; the file `stdout` beside src/ is what it must print.
-mod counts;
 mod refusals;
 mod sectors;
 
@@ -14,7 +13,4 @@ fn main() {
     refusals::lists();
     refusals::two_of_lists();
     refusals::handed_on();
-    counts::chain();
-    counts::lists();
-    counts::torus();
 }

@@ -3,8 +3,8 @@ use Prim.Native.Nat.{_-_, _≤_}
 use mathlib.Core.Logic.{⊎-elim}
 use native.Mathlib.Omega.{arith}
 use borrow.Author.Needs.{needs}
-use Rattle.sector_examples.proofs.counts.lists_keeping.Statement.{statement}
-use Rattle.sector_examples.proofs.counts.lists_keeping.Tie as tie
+use Rattle.count_examples.proofs.counts.lists_keeping.Statement.{statement}
+use Rattle.count_examples.proofs.counts.lists_keeping.Tie as tie
 
 abbrev Inv-loop : tie.InvT-loop
 Inv-loop torus word count₀ i₀ count i = (i ≤ 4) × (count ≤ i)
