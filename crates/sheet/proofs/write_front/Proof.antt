@@ -6,11 +6,11 @@ use borrow.Author.Needs.{needs}
 use Rattle.sheet.proofs.write_front.Statement.{statement}
 use Rattle.sheet.proofs.write_front.Tie as tie
 
-slice-aggregate-write-all : tie.Need-slice-aggregate-write-all
-slice-aggregate-write-all c = let a = c .before .before .before .args in sym (length-take-le (a .length) (now (a .table)) (c .before .if1 .taken))
+slice-aggregate-write : tie.Need-slice-aggregate-write
+slice-aggregate-write c = let a = c .before .before .before .args in sym (length-take-le (a .length) (now (a .table)) (c .before .if1 .taken))
 
-write-all-requires : tie.Need-write-all-requires
-write-all-requires c κs = search needs
+write-requires : tie.Need-write-requires
+write-requires c κs = search needs
 
 returns : tie.Need-returns
 returns c = search needs
@@ -19,4 +19,4 @@ returns-2 : tie.Need-returns-2
 returns-2 c = search needs
 
 pub write-front-spec : {M : Type 1} → statement M
-write-front-spec = tie.close (tie.spec slice-aggregate-write-all write-all-requires returns returns-2)
+write-front-spec = tie.close (tie.spec slice-aggregate-write write-requires returns returns-2)
