@@ -2,6 +2,7 @@
 ghost use Prim.Native.Nat.{_<_};
 ghost use lib.ListN.{length};
 use libc::STDOUT_FILENO;
+use outcome::Refusal;
 use sheet_text::MAX_TABLE;
 use sheet_text::Printed;
 
@@ -54,7 +55,8 @@ pub fn sheet(name: &[u8], input: &[u8]) {
 fn table(input: &[u8], whole: bool) {
     let mut list = [0u8; MAX_TABLE];
     match sheet_text::sheet_text(input, &mut list) {
-        Printed::Length(length) => part(&list, length, whole),
+        Printed::Table(length) => part(&list, length, whole),
+        Printed::Refused(_, _, length) => part(&list, length, whole),
         Printed::ListLength => text(b"refused 21\n"),
     }
 }
@@ -102,10 +104,28 @@ pub fn in_list(name: &[u8], input: &[u8], list: &mut [u8]) {
     number(list.len());
     text(b": ");
     match sheet_text::sheet_text(input, list) {
-        Printed::Length(length) => number(length),
+        Printed::Table(length) => answer(b"a table", length),
+        Printed::Refused(why, line, length) => refusal(why, line, length),
         Printed::ListLength => text(b"refused 21"),
     }
     text(b"\n");
     text(list);
     text(b"|\n");
+}
+
+// A refusal with its number and line.
+fn refusal(why: Refusal, line: usize, length: usize) {
+    text(b"a refusal by ");
+    number(outcome::rule_number(why));
+    text(b" at line ");
+    number(line);
+    answer(b"", length);
+}
+
+// What is printed, and its length.
+fn answer(what: &[u8], length: usize) {
+    text(what);
+    text(b" of ");
+    number(length);
+    text(b" bytes");
 }
