@@ -9,8 +9,10 @@ use lib.ListN.{length, take, drop}
 use borrow.Author.Tests.{lt-ltb, le-ltb, ltb-false, eq-eqb, ne-eqb, eqb-true, not-false}
 use Rattle.outcome.specs.declared.Refusal.{Refusal}
 use Rattle.outcome.specs.declared.Refusal.the-variants as Refusal
-use Rattle.outcome.specs.Outcome.{answer, refusalOf, verdict}
-use Rattle.outcome.proofs.Outcomes.{refused-apart, verdict-fine}
+use Rattle.outcome.specs.declared.Verdict.{Verdict}
+use Rattle.outcome.specs.declared.Verdict.the-variants as Verdict
+use Rattle.outcome.specs.Outcome.{answer, refusalOf, outcomeOfVerdict, verdict}
+use Rattle.outcome.proofs.Outcomes.{refused-apart, verdict-fine, told-passes}
 use Rattle.pauli_word.specs.Limits.{maxSites, planeLength, wordLength}
 use Rattle.pauli_word.specs.Bytes.{clearFrom, Bytes, AcceptedWord}
 use Rattle.pauli_word.specs.Calls.{siteCount, wordSize, bitAbove, wordChecks, clearAbove}
@@ -126,3 +128,12 @@ word-call-passes g ok bytes word =
       word .xClear,
       word .zClear,
     )
+
+-- ---- a call that has been told that its checks pass
+
+pub call-accepted :
+    (g : Group) (n : ℕ) (bytes : List ℕ) {v : Verdict} → outcomeOfVerdict v ≡ verdict (wordCallChecks g n bytes) → v ≡ Verdict.Accepted
+    → length (g .targets) ≡ targetPlaces → length (g .orders) ≡ maxGenerators → Bytes bytes → AcceptedGroup g × AcceptedWord (g .sites) bytes
+call-accepted g n bytes told e targets orders small =
+    let pass = told-passes (wordCallChecks g n bytes) _ told e in
+    (call-group g n bytes pass targets orders, call-word g n bytes pass small)

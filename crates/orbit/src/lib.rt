@@ -61,19 +61,18 @@ pub fn canonicalize(group: Group, n: usize, word: &[u8]) -> Canonical
     ensures answer { λ r. ⌜ outcomeOfVerdict (r .answer) ≡ onAnswer done (canonicalizeOutcome group n (now (word .entry))) ⌝ }
     ensures word { λ r. ⌜ r .word ≡ orElse bytesOf noWord (canonicalizeOutcome group n (now (word .entry))) ⌝ }
 {
-    match inner::word_call_checked(group, n, word) {
-        Verdict::Refused(why) => Canonical {
-            answer: Verdict::Refused(why),
-            word: [0u8; WORD_BYTES],
+    let found = canonicalize_with_index(group, n, word);
+    let answer = found.answer;
+    let least = found.word;
+    match answer {
+        Number::Value(_) => Canonical {
+            answer: Verdict::Accepted,
+            word: least,
         },
-        Verdict::Accepted => {
-            let least = inner::least_of(group, word);
-            let found = least.word;
-            Canonical {
-                answer: Verdict::Accepted,
-                word: found,
-            }
-        }
+        Number::Refused(why) => Canonical {
+            answer: Verdict::Refused(why),
+            word: least,
+        },
     }
 }
 

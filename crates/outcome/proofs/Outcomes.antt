@@ -7,7 +7,9 @@ use mathlib.Core.List.{List, [], _∷_, _++_}
 use native.Mathlib.Omega.{arith}
 use Rattle.outcome.specs.declared.Refusal.{Refusal}
 use Rattle.outcome.specs.declared.Refusal.the-variants as Refusal
-use Rattle.outcome.specs.Outcome.{Outcome, refused, answer, ruleNumber, refusalOf, Check, verdict, alone, given, unless}
+use Rattle.outcome.specs.declared.Verdict.{Verdict}
+use Rattle.outcome.specs.declared.Verdict.the-variants as Verdict
+use Rattle.outcome.specs.Outcome.{outcomeOfVerdict, Outcome, refused, answer, ruleNumber, refusalOf, Check, verdict, alone, given, unless}
 
 -- ---- a refusal is no answer
 
@@ -94,6 +96,25 @@ unless-answer cs a b e = go (verdict cs) refl e
     go : (v : Outcome (Unit {0})) → verdict cs ≡ v → given v (answer a) ≡ answer b → (verdict cs ≡ answer tt) × (a ≡ b)
     go (refused k vs) p q = absurd (refused-apart k vs b q)
     go (answer tt) p q = (p, cc)
+
+-- ---- a call that has been told what its checks come to
+
+module _ (cs : List Check) (v : Verdict) (told : outcomeOfVerdict v ≡ verdict cs) where
+  pub told-passes : v ≡ Verdict.Accepted → verdict cs ≡ answer tt
+  told-passes e = sym told ∙ ap outcomeOfVerdict e
+
+  told-verdict : {why : Refusal} → v ≡ Verdict.Refused why → verdict cs ≡ refusalOf why
+  told-verdict e = sym told ∙ ap outcomeOfVerdict e
+
+  pub told-refused : {A : Type 0} (o : Outcome A) {why : Refusal} → v ≡ Verdict.Refused why → unless cs o ≡ refusalOf why
+  told-refused o {why} e = call-refused cs o why (told-verdict e)
+
+  -- further checks come after them
+  pub told-refused-first : {A : Type 0} (ds : List Check) (o : Outcome A) {why : Refusal} → v ≡ Verdict.Refused why → unless (cs ++ ds) o ≡ refusalOf why
+  told-refused-first ds o {why} e = call-refused (cs ++ ds) o why (front-refused cs ds why (told-verdict e))
+
+  pub told-answers : {A : Type 0} {a b : A} → v ≡ Verdict.Accepted → b ≡ a → answer b ≡ unless cs (answer a)
+  told-answers {a} e same = ap answer same ∙ sym (call-answers cs (answer a) (told-passes e))
 
 -- ---- a rule's number has at most two digits
 

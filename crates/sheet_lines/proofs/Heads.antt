@@ -189,12 +189,13 @@ pub head-refused : (input : List ℕ) (r : Head) (why : Refusal) (line : ℕ) �
     → refusedAt why line ≡ verdict (lineChecks (pieces lineEnd input))
     → ((w : Refusal) (k : ℕ) → r .answer ≡ LineVerdict.Refused w k → (refusedAt w k ≡ verdict (lineChecks (pieces lineEnd input))) × (k ≤ 3))
     × (r .answer ≡ LineVerdict.Accepted → Ready input r)
-head-refused input r why line a l e =
-    ((λ w k h.
-    let p : why ≡ w = cc in
-    let q : line ≡ k = cc in
-    (ap₂ refusedAt (sym p) (sym q) ∙ e, omega arith)),
-    λ z. let no : _≡_ {A = ℕ} 0 1 = cc in absurd (omega arith))
+head-refused input r why line a l e = (
+  (λ w k h.
+      let p : why ≡ w = cc in
+      let q : line ≡ k = cc in
+      (ap₂ refusedAt (sym p) (sym q) ∙ e, omega arith)),
+  λ z. let no : _≡_ {A = ℕ} 0 1 = cc in absurd (omega arith),
+)
 
 -- the three lines end at a, b and c, each in what follows the one before
 module _ (input text rest : List ℕ) (a b c : ℕ) (x : Ended input a) (first : text ≡ drop (a + 1) input) (y : Ended text b)

@@ -100,7 +100,11 @@ pub fn sides_fit(used: usize, a: &[u8], b: &[u8], c: &[u8]) -> bool
     requires { ⌜ used ≤ 3 ⌝ }
     ensures { λ r. ⌜ r ≡ firstPass isNumber used (now (a .entry) ∷ now (b .entry) ∷ now (c .entry) ∷ []) ⌝ }
 {
-    all(side_fits(0 < used, a), side_fits(1 < used, b), side_fits(2 < used, c))
+    all(
+        side_fits(0 < used, a),
+        side_fits(1 < used, b),
+        side_fits(2 < used, c),
+    )
 }
 
 // A mode where it is used, else 0.
@@ -121,7 +125,11 @@ pub fn modes_fit(used: usize, a: &[u8], b: &[u8], c: &[u8]) -> bool
     requires { ⌜ used ≤ 3 ⌝ }
     ensures { λ r. ⌜ r ≡ firstPass isMode used (now (a .entry) ∷ now (b .entry) ∷ now (c .entry) ∷ []) ⌝ }
 {
-    all(mode_fits(0 < used, a), mode_fits(1 < used, b), mode_fits(2 < used, c))
+    all(
+        mode_fits(0 < used, a),
+        mode_fits(1 < used, b),
+        mode_fits(2 < used, c),
+    )
 }
 
 // A mode, 0 where a text is none.

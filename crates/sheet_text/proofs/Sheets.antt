@@ -109,8 +109,8 @@ module _ (input : List ℕ) (short : length input ≤ maxSheet) (h : Head) (read
       let (answers, text) = sheet-fine input short (ready-checks ∙ fine) in (
         answers,
         text
-        ∙ table-rows (pieces lineEnd input) (pieces lineEnd body) (ready .line) (ready .second) (ready .lines ∙ ap (pieces lineEnd) (sym body-is))
-        ∙ rw (ready .used, gens),
+            ∙ table-rows (pieces lineEnd input) (pieces lineEnd body) (ready .line) (ready .second) (ready .lines ∙ ap (pieces lineEnd) (sym body-is))
+            ∙ rw (ready .used, gens),
       )
 
 -- ---- the call

@@ -1,7 +1,7 @@
 -- `phase_modulus` meets its contract: the checks pass or refuse, and the phase modulus of an accepted group is what it answers.
-use mathlib.Core.Path.{sym, ap, _∙_}
-use Rattle.outcome.specs.Outcome.{answer, outcomeOfVerdict}
-use Rattle.outcome.proofs.Outcomes.{call-answers, call-refused}
+use mathlib.Core.Path.{sym}
+use Rattle.outcome.proofs.Outcomes.{told-passes, told-refused, told-answers}
+use Rattle.outcome.specs.Outcome.{answer}
 use Rattle.action.specs.Sector.{modulus}
 use Rattle.group.specs.Value.{generatorsOf}
 use Rattle.group.specs.Calls.{valueChecks, modulusOutcome}
@@ -21,24 +21,20 @@ enum-told c = search needs
 
 modulus-of-requires : tie.Need-modulus-of-requires
 modulus-of-requires c κs =
-    value-accepted (c .before .before .before .args .group) (search needs) (search needs) (sym (c .before .before .value-checked .ensures) ∙ ap outcomeOfVerdict (c .enum-told .given .1))
+    let g = c .before .before .before .args .group in
+    value-accepted g (search needs) (search needs) (told-passes (valueChecks g) _ (c .before .before .value-checked .ensures) (c .enum-told .given .1))
 
 returns : tie.Need-returns
 unfolding modulusOutcome
 returns c =
     let g = c .before .before .before .before .args .group in
-    sym
-    (call-refused (valueChecks g) (answer (modulus (generatorsOf g))) (c .before .why .given .0 .0)
-    (sym (c .before .before .before .value-checked .ensures) ∙ ap outcomeOfVerdict (c .before .why .given .1)))
+    sym (told-refused (valueChecks g) _ (c .before .before .before .value-checked .ensures) (answer (modulus (generatorsOf g))) (c .before .why .given .1))
 
 returns-2 : tie.Need-returns-2
 unfolding modulusOutcome
 returns-2 c =
     let g = c .before .before .before .before .args .group in
-    ap answer (c .modulus-of .ensures)
-    ∙ sym
-    (call-answers (valueChecks g) (answer (modulus (generatorsOf g)))
-    (sym (c .before .before .before .value-checked .ensures) ∙ ap outcomeOfVerdict (c .before .enum-told .given .1)))
+    told-answers (valueChecks g) _ (c .before .before .before .value-checked .ensures) (c .before .enum-told .given .1) (c .modulus-of .ensures)
 
 pub phase-modulus-spec : {M : Type 1} → statement M
 phase-modulus-spec =

@@ -1,80 +1,71 @@
--- `canonicalize` meets its contract: the checks pass or refuse, and what `inner::least_of` finds of an accepted word is what it answers.
+-- `canonicalize` meets its contract: it is `canonicalize_with_index` without the index.
 use Prim.Native.Nat.{ℕ}
-use mathlib.Core.Path.{_≡_, sym, ap, _∙_}
+use mathlib.Core.Path.{_≡_, refl, sym, ap, _∙_}
 use mathlib.Core.List.{List}
-use denote.Ref.{now}
-use Rattle.outcome.specs.Outcome.{answer, verdict, onAnswer, orElse, done, refusalOf, outcomeOfVerdict}
-use Rattle.pauli_word.proofs.Planes.{bytes-of}
-use Rattle.outcome.proofs.Outcomes.{call-answers, call-refused}
-use Rattle.action.specs.Orbit.{least}
-use Rattle.group.specs.declared.Group.{Group}
-use Rattle.outcome.specs.declared.Refusal.{Refusal}
-use Rattle.group.specs.Value.{generatorsOf}
-use Rattle.orbit.specs.Calls.{wordCallChecks, canonicalizeOutcome, noWord}
-use Rattle.orbit.proofs.WordCalls.{call-group, call-sites, call-word}
 use borrow.Author.Needs.{needs}
+use denote.Ref.{now}
+use Rattle.outcome.specs.declared.Number.{Number}
+use Rattle.outcome.specs.Outcome.{Outcome, refused, answer, outcomeOfNumber, verdict, given, onAnswer, orElse, done}
+use Rattle.pauli_word.specs.Word.{Word}
+use Rattle.pauli_word.specs.Bytes.{lettersIn, bytesOf}
+use Rattle.action.specs.Permutation.{Generator}
+use Rattle.action.specs.Orbit.{least, indexBack}
+use Rattle.group.specs.declared.Group.{Group}
+use Rattle.group.specs.Value.{generatorsOf}
+use Rattle.orbit.specs.Calls.{wordCallChecks, canonicalizeOutcome, withIndexOutcome, wordOf, indexOf, noWord}
 use Rattle.orbit.proofs.canonicalize.Statement.{statement}
 use Rattle.orbit.proofs.canonicalize.Tie as tie
-use Rattle.pauli_word.specs.Bytes.{lettersIn, bytesOf}
 
+-- the two calls come to the same: the word, and that there is one
 module _ (g : Group) (n : ℕ) (bytes : List ℕ) where
-  refused-word : (why : Refusal) → verdict (wordCallChecks g n bytes) ≡ refusalOf why → canonicalizeOutcome g n bytes ≡ refusalOf why
-  unfolding canonicalizeOutcome
-  refused-word why e = call-refused (wordCallChecks g n bytes) (answer (least (generatorsOf g) (lettersIn n bytes))) why e
+  abbrev gs : List Generator
+  gs = generatorsOf g
 
-  answered-word : verdict (wordCallChecks g n bytes) ≡ answer tt → canonicalizeOutcome g n bytes ≡ answer (least (generatorsOf g) (lettersIn n bytes))
-  unfolding canonicalizeOutcome
-  answered-word e = call-answers (wordCallChecks g n bytes) (answer (least (generatorsOf g) (lettersIn n bytes))) e
+  abbrev w : Word
+  w = lettersIn n bytes
 
-word-call-checked-requires : tie.Need-word-call-checked-requires
-word-call-checked-requires c κs = search needs
+  same-word : orElse wordOf noWord (withIndexOutcome g n bytes) ≡ orElse bytesOf noWord (canonicalizeOutcome g n bytes)
+  unfolding withIndexOutcome canonicalizeOutcome
+  same-word = go (verdict (wordCallChecks g n bytes))
+    where
+      go : (v : Outcome (Unit {0})) → orElse wordOf noWord (given v (answer (least gs w, indexBack gs w))) ≡ orElse bytesOf noWord (given v (answer (least gs w)))
+      go (refused k vs) = refl
+      go (answer tt) = refl
 
-enum-known-why : tie.Need-enum-known-why
-enum-known-why c = search needs
+  without-index : onAnswer done (onAnswer indexOf (withIndexOutcome g n bytes)) ≡ onAnswer done (canonicalizeOutcome g n bytes)
+  unfolding withIndexOutcome canonicalizeOutcome
+  without-index = go (verdict (wordCallChecks g n bytes))
+    where
+      go : (v : Outcome (Unit {0})) → onAnswer done (onAnswer indexOf (given v (answer (least gs w, indexBack gs w)))) ≡ onAnswer done (given v (answer (least gs w)))
+      go (refused k vs) = refl
+      go (answer tt) = refl
+
+canonicalize-with-index-requires : tie.Need-canonicalize-with-index-requires
+canonicalize-with-index-requires c κs = search needs
 
 enum-told : tie.Need-enum-told
 enum-told c = search needs
 
-least-of-requires : tie.Need-least-of-requires
-least-of-requires c κs =
-    let a = c .before .before .before .before .args in
-    let bytes = now (a .word) in
-    let pass = sym (c .before .before .word-call-checked .ensures) ∙ ap outcomeOfVerdict (c .enum-told .given .1) in (
-      call-group (a .group) (a .n) bytes pass (search needs) (search needs),
-      call-word (a .group) (a .n) bytes pass (bytes-of bytes (λ i. c .before .before .before .shared-slice-known .given i .fits)),
-    )
+enum-known-answer : tie.Need-enum-known-answer
+enum-known-answer c = search needs
 
 returns : tie.Need-returns
 returns c =
     let a = c .before .before .before .before .before .args in
-    let why = c .before .why .given .0 .0 in
-    let e =
-    refused-word (a .group) (a .n) (now (a .word)) why
-    (sym (c .before .before .before .word-call-checked .ensures) ∙ ap outcomeOfVerdict (c .before .why .given .1))
-    in
-    (sym (ap (onAnswer done) e), sym (ap (orElse bytesOf noWord) e))
+    let r = c .before .before .before .canonicalize-with-index in (
+      ap (λ (k : Number). onAnswer done (outcomeOfNumber k)) (sym (c .enum-told .given .1)) ∙ ap (onAnswer done) (r .ensures .0) ∙ without-index (a .group) (a .n) (now (a .word)),
+      r .ensures .1 ∙ same-word (a .group) (a .n) (now (a .word)),
+    )
 
 returns-2 : tie.Need-returns-2
 returns-2 c =
     let a = c .before .before .before .before .before .before .args in
-    let g = a .group in
-    let bytes = now (a .word) in
-    let pass = sym (c .before .before .before .before .word-call-checked .ensures) ∙ ap outcomeOfVerdict (c .before .before .enum-told .given .1) in
-    let e = answered-word g (a .n) bytes pass in
-    let same = call-sites g (a .n) bytes pass in (
-      sym (ap (onAnswer done) e),
-      c .before .least-of .ensures .0
-          ∙ ap (λ (k : ℕ). bytesOf (least (generatorsOf g) (lettersIn k bytes))) (sym same)
-          ∙ sym (ap (orElse bytesOf noWord) e),
+    let r = c .before .before .before .before .canonicalize-with-index in (
+      ap (λ (k : Number). onAnswer done (outcomeOfNumber k)) (sym (c .before .answer .given .1))
+          ∙ ap (onAnswer done) (r .ensures .0)
+          ∙ without-index (a .group) (a .n) (now (a .word)),
+      r .ensures .1 ∙ same-word (a .group) (a .n) (now (a .word)),
     )
 
 pub canonicalize-spec : {M : Type 1} → statement M
-canonicalize-spec =
-    tie.close
-    (tie.spec
-    word-call-checked-requires
-    enum-known-why
-    enum-told
-    least-of-requires
-    returns
-    returns-2)
+canonicalize-spec = tie.close (tie.spec canonicalize-with-index-requires enum-told enum-known-answer returns returns-2)

@@ -1,34 +1,23 @@
 -- `canonicalize_with_shift` meets its contract: the checks pass or refuse, and a word that passes has the group's sites, as `calls::shift_of` asks.
 use Prim.Native.Nat.{ℕ}
-use mathlib.Core.Path.{_≡_, sym, ap, _∙_}
-use mathlib.Core.List.{List, [], _∷_, _++_}
+use mathlib.Core.Path.{sym, ap, _∙_}
 use lib.ListN.{length}
 use denote.Ref.{now}
-use Rattle.outcome.specs.Outcome.{answer, verdict, onAnswer, orElse, done, refusalOf, outcomeOfVerdict}
+use mathlib.Core.List.{List, [], _∷_}
+use Rattle.outcome.specs.Outcome.{answer, onAnswer, orElse, done}
+use Rattle.pauli_word.specs.Word.{Word}
 use Rattle.pauli_word.proofs.Planes.{bytes-of}
-use Rattle.action.specs.Index.{digits}
-use Rattle.action.specs.Orbit.{least, indexBack}
-use Rattle.group.specs.declared.Group.{Group}
-use Rattle.outcome.specs.declared.Refusal.{Refusal}
-use Rattle.group.specs.Value.{generatorsOf}
-use Rattle.orbit.specs.Calls.{wordCallChecks, withShiftOutcome, wordOf, shiftOf, noWord}
-use Rattle.group.specs.Calls.{listLength}
-use Rattle.outcome.proofs.Outcomes.{call-refused, front-refused}
-use Rattle.orbit.proofs.WordCalls.{call-group, call-sites, call-word}
+use Rattle.orbit.specs.Calls.{withShiftOutcome, wordOf, shiftOf, noWord, wordCallChecks}
+use Rattle.orbit.proofs.WordCalls.{call-sites, call-accepted}
 use borrow.Author.Needs.{needs}
 use Rattle.orbit.proofs.canonicalize_with_shift.Statement.{statement}
 use Rattle.orbit.proofs.canonicalize_with_shift.Tie as tie
+use Rattle.outcome.proofs.Outcomes.{told-passes, told-refused-first}
+use Rattle.group.specs.Calls.{listLength}
+use Rattle.action.specs.Orbit.{least, indexBack}
+use Rattle.action.specs.Index.{digits}
+use Rattle.group.specs.Value.{generatorsOf}
 use Rattle.pauli_word.specs.Bytes.{lettersIn}
-
-refused-word :
-    (g : Group) (n : ℕ) (bytes : List ℕ) (k : ℕ) (why : Refusal) → verdict (wordCallChecks g n bytes) ≡ refusalOf why
-    → withShiftOutcome g n bytes k ≡ refusalOf why
-unfolding withShiftOutcome
-refused-word g n bytes k why e =
-    let more = listLength k (g .generators) ∷ [] in
-    call-refused (wordCallChecks g n bytes ++ more)
-    (answer (least (generatorsOf g) (lettersIn n bytes), digits (generatorsOf g) (indexBack (generatorsOf g) (lettersIn n bytes)))) why
-    (front-refused (wordCallChecks g n bytes) more why e)
 
 word-call-checked-requires : tie.Need-word-call-checked-requires
 word-call-checked-requires c κs = search needs
@@ -42,24 +31,22 @@ enum-told c = search needs
 shift-of-requires : tie.Need-shift-of-requires
 shift-of-requires c κs =
     let a = c .before .before .before .before .before .before .args in
-    let bytes = now (a .word) in
-    let pass = sym (c .before .before .before .word-call-checked .ensures) ∙ ap outcomeOfVerdict (c .before .enum-told .given .1) in (
-      call-group (a .group) (a .n) bytes pass (search needs) (search needs),
-      call-word (a .group) (a .n) bytes pass (bytes-of bytes (λ i. c .before .before .before .before .before .shared-slice-known .given i .fits)),
-    )
+    call-accepted (a .group) (a .n) (now (a .word)) (c .before .before .before .word-call-checked .ensures) (c .before .enum-told .given .1)
+    (search needs) (search needs) (bytes-of (now (a .word)) (λ i. c .before .before .before .before .before .shared-slice-known .given i .fits))
 
 returns : tie.Need-returns
+unfolding withShiftOutcome
 returns c =
     let a = c .before .before .before .before .before .before .args in
-    let why = c .before .why .given .0 .0 in
     let counter = now (a .counter) in
+    let gs = generatorsOf (a .group) in
+    let w = lettersIn (a .n) (now (a .word)) in
+    let found : Word × List ℕ = (least gs w, digits gs (indexBack gs w)) in
     let e =
-    refused-word (a .group) (a .n) (now (a .word)) (length counter) why
-    (sym (c .before .before .before .word-call-checked .ensures) ∙ ap outcomeOfVerdict (c .before .why .given .1))
-    in (
-      sym (ap (onAnswer done) e),
-      (sym (ap (orElse wordOf noWord) e), sym (ap (orElse shiftOf counter) e)),
-    )
+    told-refused-first (wordCallChecks (a .group) (a .n) (now (a .word))) _ (c .before .before .before .word-call-checked .ensures)
+    (listLength (length counter) (a .group .generators) ∷ []) (answer found) (c .before .why .given .1)
+    in
+    (sym (ap (onAnswer done) e), (sym (ap (orElse wordOf noWord) e), sym (ap (orElse shiftOf counter) e)))
 
 same-length : tie.Need-same-length
 same-length c = search needs
@@ -71,7 +58,7 @@ returns-2 c =
     let bytes = now (a .word) in
     let counter = now (a .counter) in
     let t = c .before .before .before .before in
-    let pass = sym (t .before .before .word-call-checked .ensures) ∙ ap outcomeOfVerdict (t .enum-told .given .1) in
+    let pass = told-passes (wordCallChecks g (a .n) bytes) _ (t .before .before .word-call-checked .ensures) (t .enum-told .given .1) in
     let same = ap (λ (k : ℕ). withShiftOutcome g k bytes (length counter)) (sym (call-sites g (a .n) bytes pass)) in (
       c .before .before .shift-of .ensures .0 ∙ ap (onAnswer done) same,
       (

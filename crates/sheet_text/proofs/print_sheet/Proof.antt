@@ -209,9 +209,9 @@ returns-4 c =
       (
         rows .0 ∙ ap (λ (k : ℕ). k + length value) (names .0) ∙ sym (ap length (prints .1) ∙ length-append header value),
         rows .1 .0
-        ∙ ap₂ (λ (k : ℕ) (l : List ℕ). put k value l) (names .0) (names .1)
-        ∙ put-put 0 header value list room
-        ∙ sym (ap (λ (t : List ℕ). put 0 t list) (prints .1)),
+            ∙ ap₂ (λ (k : ℕ) (l : List ℕ). put k value l) (names .0) (names .1)
+            ∙ put-put 0 header value list room
+            ∙ sym (ap (λ (t : List ℕ). put 0 t list) (prints .1)),
       ),
     )
 
