@@ -1,4 +1,4 @@
-// Pauli words: read from text, written as text, weighed and compared. A word has a site count n and 64 bytes, the X plane and then
+// Pauli words: read from text, written as text, weighed and compared. A word has a site count n and its bytes, the X plane and then
 // the Z plane; site q is bit q mod 8 of a plane's byte q div 8. Letters by (X bit, Z bit): I 00, Z 01, X 10, Y 11.
 //
 // No call here asks anything of its caller: bad input is refused by number, and nothing else is answered with it.
@@ -15,14 +15,14 @@ ghost use lib.ListN.{length};
 ghost use Rattle.outcome.specs.Outcome.{onAnswer, outcomeOfNumber};
 ghost use Rattle.pauli_word.specs.Calls.{fromTextOutcome, fromTextBytes, toTextOutcome, toTextBytes, weightOutcome, outcomeOfComparison, compareOutcome};
 
-// The most sites of a word.
-pub const MAX_SITES: usize = 256;
-
 // The bytes of one plane.
 pub const PLANE_BYTES: usize = 32;
 
-// The bytes of a word.
-pub const WORD_BYTES: usize = 64;
+// The most sites of a word: a bit of a plane for each.
+pub const MAX_SITES: usize = 8 * PLANE_BYTES;
+
+// The bytes of a word: the X plane and then the Z plane.
+pub const WORD_BYTES: usize = 2 * PLANE_BYTES;
 
 // A word read from text: the site count beside the word, or why it is none, beside zeros.
 pub struct TextWord {

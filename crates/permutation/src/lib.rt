@@ -2,14 +2,16 @@
 // Nothing here is a buyer's call: the crate group has those.
 pub mod inner;
 
+use pauli_word::MAX_SITES;
+
 // The most generators of a group.
 pub const MAX_GENERATORS: usize = 4;
 
 // The largest group order.
 pub const MAX_ORDER: usize = 1048576;
 
-// The places for targets: 256 for each generator.
-pub const TARGET_PLACES: usize = 1024;
+// The places for targets: MAX_SITES for each generator.
+pub const TARGET_PLACES: usize = MAX_GENERATORS * MAX_SITES;
 
 // The largest order of one generator, as it is declared in 32 bits.
 pub const MAX_DECLARED: u64 = 4294967295;
