@@ -13,6 +13,7 @@ use lib.Seq.{length-take-le, take-at, drop-at, drop-drop, take-append-seam, drop
 use borrow.Author.Tests.{eqb-true, eqb-false, ne-eqb, leb-true, le-leb, ltb-true, lt-ltb, not-true}
 use mir.Syntax.{w32}
 use mir.Val.{SFits}
+use Rattle.pauli_word.specs.Bytes.{byteValues}
 use Rattle.action.specs.Lists.{from, below, select, count, every}
 use Rattle.text.specs.Text.{lineEnd, space, minus, zeroDigit, nineDigit, before, extended, pieces, isDigit, isNumber, numberOf, modeBound, isMode, modeOf, digitsOf, wideDigits, decimal, put}
 use Rattle.text.specs.Parts.{modeRead, fieldFrom, fourFields, fieldLength, fieldsRead}
@@ -29,7 +30,7 @@ use Rattle.text.proofs.Roundtrip.{digits-number, digits-isNumber, numbe
 pub byte-names : lineEnd ∷ space ∷ minus ∷ zeroDigit ∷ nineDigit ∷ [] ≡ bytes "\n -09"
 byte-names = refl
 
-pub digit-bytes : select isDigit (below 256) ≡ bytes "0123456789"
+pub digit-bytes : select isDigit (below byteValues) ≡ bytes "0123456789"
 unfolding select below from
 digit-bytes = refl
 
