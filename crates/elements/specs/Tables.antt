@@ -1,4 +1,4 @@
--- A group as it is stored: tables of targets, 256 places a generator, and of orders; and words one after the other in a list.
+-- A group as it is stored: tables of targets, maxSites places a generator, and of orders; and words one after the other in a list.
 use Prim.Native.Nat.{ℕ, _≤_}
 use mathlib.Core.Path.{_≡_}
 use mathlib.Core.List.{List, [], _∷_, _++_}

@@ -1,6 +1,6 @@
 -- Tables and the groups that they hold: tables that hold a group hold valid generators and nothing else, and generators that break no rule are
 -- held by their tables. And a list that writes given permutations.
--- What carries it: a row of 256 places is a permutation and zeros after it.
+-- What carries it: a row of maxSites places is a permutation and zeros after it.
 use Prim.Native.Nat.{ℕ, zero, suc, _+_, _-_, _*_, _≤_, _<_}
 use mathlib.Core.Path.{_≡_, refl, sym, ap, ap₂, _∙_}
 use mathlib.Core.Logic.{inl, inr}
@@ -115,7 +115,7 @@ module _ (k n : ℕ) (targets orders : List ℕ) (hold : holdGroup k n targets o
 
 -- ---- the tables of generators
 
--- the 256 places of generator i
+-- the maxSites places of generator i
 placed-row :
     (ps : List (List ℕ)) (rest : List ℕ) → ((p : List ℕ) → Member p ps → length p ≤ maxSites)
     → (i : ℕ) → i < length ps → rowAt maxSites (placed ps ++ rest) i ≡ filled maxSites (getD ps i [])

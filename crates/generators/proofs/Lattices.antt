@@ -29,7 +29,7 @@ module _ (a b c : ℕ) where
   unfolding sidesOutcome
   large h = simp (lt-ltb 0 (a * b * c) (omega arith), lt-ltb maxSites (a * b * c) h)
 
--- two sides, and then the third: a quotient tells whether the product exceeds 256
+-- two sides, and then the third: a quotient tells whether the product exceeds maxSites
 module _ (a b c : ℕ) (some : 0 < a) (more : 0 < b) (most : 0 < c) where
   pub two-large : maxSites / a < b → sidesOutcome a b c ≡ refusalOf Refusal.SidesTooLarge
   two-large h =

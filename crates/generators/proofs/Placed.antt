@@ -1,4 +1,4 @@
--- Permutations placed one after the other, 256 places each, over zeros.
+-- Permutations placed one after the other, maxSites places each, over zeros.
 -- What carries it: a list of zeros cut anywhere is zeros, so one more permutation stored over zeros is placed after those before it.
 use Prim.Native.Nat.{ℕ, _+_, _-_, _*_, _≤_, _<_}
 use mathlib.Core.Path.{_≡_, refl, sym, ap, ap₂, _∙_}
@@ -32,7 +32,7 @@ module _ (ps : List (List ℕ)) (p : List ℕ) (g : ℕ) (many : length (placed 
       ∙ ap₂ _+_ many (ap length one ∙ filled-length maxSites p small)
       ∙ omega arith
 
-  -- the zeros after it, up to its 256 places and then up to the last place
+  -- the zeros after it, up to its maxSites places and then up to the last place
   rest : blank (maxSites - length p) ++ blank (targetPlaces - maxSites * (g + 1)) ≡ blank (targetPlaces - maxSites * g - length p)
   rest =
       let e : maxSites - length p + (targetPlaces - maxSites * (g + 1)) ≡ targetPlaces - maxSites * g - length p = omega arith in

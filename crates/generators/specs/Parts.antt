@@ -17,7 +17,7 @@ scanOutcome list = unless (listEnd list ∷ []) (answer (length (permsOf list)))
 abbrev pub zeroSide : Bool → Check
 zeroSide b = rule Refusal.ZeroSide b
 
--- 27: sides whose product exceeds 256
+-- 27: sides whose product exceeds maxSites
 abbrev pub sidesLimit : ℕ → Check
 sidesLimit n = rule Refusal.SidesTooLarge (ltb maxSites n)
 

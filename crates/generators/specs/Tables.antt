@@ -1,4 +1,4 @@
--- Tables of targets, 256 places a generator, and of orders: those of given generators, and which tables hold a group.
+-- Tables of targets, maxSites places a generator, and of orders: those of given generators, and which tables hold a group.
 use Prim.Native.Nat.{ℕ, suc, _-_, _*_}
 use mathlib.Core.Bool.{Bool, _&&_, cond}
 use mathlib.Core.List.{List, [], _∷_, _++_}
@@ -14,7 +14,7 @@ use Rattle.permutation.specs.Generators.{generatorCount, permsCheck, groupCheck
 abbrev pub filled : ℕ → List ℕ → List ℕ
 filled k xs = xs ++ replicate (k - length xs) 0
 
--- the targets of permutations one after the other, 256 places each, and zeros up to the last place
+-- the targets of permutations one after the other, maxSites places each, and zeros up to the last place
 unfoldable pub placed : List (List ℕ) → List ℕ
 placed [] = []
 placed (perm ∷ perms) = filled maxSites perm ++ placed perms

@@ -56,7 +56,7 @@ pub fn fault(generator: usize, perm: &[u32], sites: usize) -> Verdict
     permutation::inner::first_fault(generator, perm, sites)
 }
 
-// The targets of a list's generators, 256 places each, over zeros, up to the first fault, 5 to 7.
+// The targets of a list's generators, MAX_SITES places each, over zeros, up to the first fault, 5 to 7.
 pub fn fill_targets(list: &[u32], sites: usize, targets: &mut [u32]) -> Verdict
     requires { ⌜ sites ≤ maxSites ⌝ }
     requires { ⌜ (endsInside (now list) ≡ false) × (length (permsOf (now list)) ≤ maxGenerators) ⌝ }

@@ -111,7 +111,7 @@ pub fn rests_clear(targets: &[u32], generators: usize, sites: usize) -> bool
     true
 }
 
-// Whether tables hold a group of at most 256 sites: no more than 4 generators, which break none of the rules 5 to 13, and unused places 0.
+// Whether tables hold a group of at most MAX_SITES sites: no more than MAX_GENERATORS generators, which break none of the rules 5 to 13, and unused places 0.
 pub fn hold_group(targets: &[u32], orders: &[u32], generators: usize, sites: usize) -> bool
     requires { ⌜ (length (now targets) ≡ targetPlaces) × (length (now orders) ≡ maxGenerators) × (sites ≤ maxSites) ⌝ }
     ensures { λ r. ⌜ r ≡ holdGroup generators sites (now (targets .entry)) (now (orders .entry)) ⌝ }

@@ -25,7 +25,7 @@ pub fn no_group() -> Group
     }
 }
 
-// Whether a value of at most 256 sites is one that accepted generators give.
+// Whether a value of at most MAX_SITES sites is one that accepted generators give.
 pub fn is_group(group: Group) -> bool
     requires { ⌜ group .sites ≤ maxSites ⌝ }
     ensures { λ r. ⌜ r ≡ isGroup group ⌝ }

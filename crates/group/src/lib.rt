@@ -20,7 +20,7 @@ use pauli_word::MAX_SITES;
 use permutation::MAX_GENERATORS;
 use permutation::TARGET_PLACES;
 
-// A group by its generators: generator g's targets stand at 256 g, unused places are 0. Each call that takes one tests it first (14).
+// A group by its generators: generator g's targets stand at MAX_SITES * g, unused places are 0. Each call that takes one tests it first (14).
 pub struct Group {
     pub sites: usize,
     pub generators: usize,

@@ -39,7 +39,7 @@ use Rattle.momentum.proofs.Kept as Kept
 use Rattle.momentum.proofs.Numerators as Numerators
 
 -- ---- The hypotheses: g is a group value that generators give which break none of the rules 1 to 13 (`GivenBy`). Its generators are gs, its sites
--- are n. A word is handed over as `bytes`: 64 of them, with no bit at or above site n (`AcceptedWord`); w bytes are its letters. A mode list ks has a
+-- are n. A word is handed over as `bytes`: wordLength of them, with no bit at or above site n (`AcceptedWord`); w bytes are its letters. A mode list ks has a
 -- signed number for each generator. `counter` is a list that a call is lent, with a place for each generator
 
 module _ (g : Group) where

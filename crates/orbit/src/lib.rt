@@ -117,7 +117,7 @@ pub fn canonicalize_with_shift(
     }
 }
 
-// The orbit list: the bytes of one entry for each index, repeats included, into a list of 64 times the order.
+// The orbit list: the bytes of one entry for each index, repeats included, into a list of WORD_BYTES times the order.
 pub fn orbit_list(group: Group, n: usize, word: &[u8], list: &mut [u8]) -> Verdict
     ensures answer { λ r. ⌜ outcomeOfVerdict r ≡ onAnswer done (orbitListOutcome group n (now (word .entry)) (length (now (list .entry)))) ⌝ }
     ensures list { λ _. ⌜ now (list .exit) ≡ orElse encodeAll (now (list .entry)) (orbitListOutcome group n (now (word .entry)) (length (now (list .entry)))) ⌝ }

@@ -50,7 +50,7 @@ accepted n bytes e small =
       zClear = q .1;
     }
 
--- an accepted word passes: no word of 64 bytes without a bit at or above n is refused
+-- an accepted word passes: no word of wordLength bytes without a bit at or above n is refused
 pub accepted-passes : (n : ℕ) (bytes : List ℕ) → AcceptedWord n bytes → verdict (wordChecks n bytes) ≡ answer tt
 accepted-passes n bytes ok = passes n bytes (ok .sites) (ok .long) (ok .xClear) (ok .zClear)
 

@@ -88,7 +88,7 @@ planeBits-set p q e l = set-byte p (q / 8) (q % 8) (digit q) e l ∙ ap (λ (i :
 
 -- ---- what `or_bit` does, case by case, to the byte x of bit q
 
--- a power of 2 below 256, as it is shifted in a byte
+-- a power of 2 below byteValues, as it is shifted in a byte
 shifted-one : (q : ℕ) → 1 * 2 ^ (q % 8) % byteValues ≡ 2 ^ (q % 8)
 shifted-one q = ap (λ (x : ℕ). x % byteValues) (one-mul (2 ^ (q % 8))) ∙ mod-eq-of-lt (pow-lt (digit q))
 

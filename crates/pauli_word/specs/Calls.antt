@@ -17,11 +17,11 @@ use Rattle.pauli_word.specs.Word.{Word, xBit, zBit, lessBits, less, weig
 use Rattle.pauli_word.specs.Bytes.{clearFrom, lettersIn, bytesOf}
 use Rattle.pauli_word.specs.Text.{isLetter, letter, lettersAlone, firstOther, readText, spell}
 
--- 1: a site count above 256
+-- 1: a site count above maxSites
 abbrev pub siteCount : ℕ → Check
 siteCount n = rule Refusal.TooManySites (ltb maxSites n)
 
--- 15: a word other than 64 bytes
+-- 15: a word other than wordLength bytes
 abbrev pub wordSize : List ℕ → Check
 wordSize bytes = rule Refusal.WordLength (not (eqb (length bytes) wordLength))
 
@@ -33,7 +33,7 @@ clearAbove n bytes = clearFrom n (take planeLength bytes) && clearFrom n (drop p
 abbrev pub bitAbove : ℕ → List ℕ → Check
 bitAbove n bytes = rule Refusal.BitAboveSites (not (clearAbove n bytes))
 
--- 28: a text word of more than 256 letters
+-- 28: a text word of more than maxSites letters
 abbrev pub textLength : List ℕ → Check
 textLength text = rule Refusal.TooManyLetters (ltb maxSites (length text))
 

@@ -1,4 +1,4 @@
--- Pairs of generators that do not commute, searched pair by pair and site by site, where each generator has 256 places of one list.
+-- Pairs of generators that do not commute, searched pair by pair and site by site, where each generator has maxSites places of one list.
 -- What carries it: below the site count, a row's target is the number at its place in the list.
 use Prim.Native.Nat.{ℕ, zero, suc, _+_, _*_, _≤_, _<_}
 use mathlib.Core.Path.{_≡_, refl, sym, ap, _∙_}

@@ -136,7 +136,7 @@ pairsCheck n l (perm ∷ perms) = orNext (withRight n l (suc l) perm perms) (pai
 abbrev pub orderOverflow : List ℕ → Check
 orderOverflow orders = rule Refusal.GroupOrderOverflow (ltb maxWide (product orders))
 
--- 13: the group order exceeds 1,048,576
+-- 13: the group order exceeds maxOrder
 abbrev pub orderLimit : List ℕ → Check
 orderLimit orders = rule Refusal.GroupOrderLimit (ltb maxOrder (product orders))
 
@@ -149,7 +149,7 @@ abbrev pub generatorChecks : ℕ → List (List ℕ) → List ℕ → List Check
 generatorChecks n perms orders =
     generatorCount (length perms) ∷ counts (length perms) (length orders) ∷ permsCheck n 0 perms ∷ groupChecks n perms orders
 
--- ---- permutations with their orders, and where they stand in a list of 256 places each
+-- ---- permutations with their orders, and where they stand in a list of maxSites places each
 
 -- permutations with their declared orders
 unfoldable pub declared : List (List ℕ) → List ℕ → List Generator

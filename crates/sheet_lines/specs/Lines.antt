@@ -106,7 +106,7 @@ lineShape line = shapeOf (field 0 line)
 abbrev pub sidesUsed : Kind → List (List ℕ) → List ℕ
 sidesUsed kind texts = map numberOf (take (sidesOf kind) texts)
 
--- 31: a shape, its sides, and 0 for each unused one; 26: a side 0; 27: sides whose product exceeds 256
+-- 31: a shape, its sides, and 0 for each unused one; 26: a side 0; 27: sides whose product exceeds maxSites
 unfoldable pub sideChecks : Kind → List (List ℕ) → ℕ → List Check
 sideChecks kind texts k =
     ruleAt Refusal.LineForm (not (isShape kind && firstPass isNumber (sidesOf kind) texts)) k
@@ -121,7 +121,7 @@ lineSites line = product (sidesUsed (lineShape line) (drop 1 (fields line)))
 abbrev pub shapeChecks : List ℕ → ℕ → List Check
 shapeChecks line k = ruleAt Refusal.LineForm (not (fourFields line)) k ∷ sideChecks (lineShape line) (drop 1 (fields line)) k
 
--- 28: more than 256 letters; 29: another letter than I, X, Y, Z; 16: another number of letters than the n sites
+-- 28: more than maxSites letters; 29: another letter than I, X, Y, Z; 16: another number of letters than the n sites
 abbrev pub letterChecks : ℕ → List ℕ → ℕ → List Check
 letterChecks n word k =
     ruleAt Refusal.TooManyLetters (ltb maxSites (length word)) k

@@ -25,7 +25,7 @@ use Rattle.orbit.proofs.steps.step_of.Tie as tie
 tables : (c : tie.Start) → let g = c .args .walk .group in Tables (g .generators) (g .sites) (g .targets) (g .orders)
 tables c = accepted-tables (c .args .walk .group) (walk-group (c .args .walk) (c .pre) (search needs) (search needs))
 
--- its word: 64 bytes
+-- its word: wordLength bytes
 byte : (c : tie.Start) (i : ℕ) → Fits w8 (getD (c .args .walk .word) i 0)
 byte c i = search needs
 
