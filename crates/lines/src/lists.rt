@@ -1,4 +1,5 @@
 // Lists: printed, a space before each entry; and after a call, whether they are as they were.
+use pauli_word::WORD_BYTES;
 
 pub fn modes(list: &[i32]) {
     none_of(list.len());
@@ -42,10 +43,10 @@ pub fn numbers(list: &[usize]) {
 // The words of n sites in a list of bytes.
 pub fn words(n: usize, list: &[u8]) {
     let mut at = 0;
-    while 64 <= list.len() - at {
+    while WORD_BYTES <= list.len() - at {
         crate::text(b" ");
-        crate::spell(n, &list[at..at + 64]);
-        at += 64;
+        crate::spell(n, &list[at..at + WORD_BYTES]);
+        at += WORD_BYTES;
     }
 }
 
