@@ -11,7 +11,7 @@ use native.Mathlib.Nat.{add-zero as sum-zero}
 use native.Mathlib.Omega.{arith}
 use lib.ListN.{length}
 use Rattle.pauli_word.specs.Word.{Word, same, less}
-use Rattle.pauli_word.proofs.Order.{same-refl, same-eq, less-irrefl, less-trans, less-total}
+use Rattle.pauli_word.proofs.WordOrder.{same-refl, same-eq, less-irrefl, less-trans, less-total}
 use Rattle.action.specs.Lists.{from, below, Member, NoRepeats}
 use Rattle.action.specs.Permutation.{Generator, Valid}
 use Rattle.action.specs.Index.{orderOf, add, inverse}

@@ -30,7 +30,7 @@ use lib.Arith.{digits-lt}
 use Rattle.action.specs.Lists.{Member}
 use Rattle.action.specs.Permutation.{Generator, Valid}
 use Rattle.action.specs.Index.{orderOf, digits, index, addDigits, add, inverseDigits, inverse, Digits}
-use Rattle.action.proofs.Order.{order-positive}
+use Rattle.action.proofs.ExactOrders.{order-positive}
 use lib.ListN.{length}
 
 -- every order is positive

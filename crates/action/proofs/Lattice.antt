@@ -39,7 +39,7 @@ use Rattle.action.specs.Permutation.{Generator, target, sends, after, ex
 use Rattle.action.specs.Index.{orderOf}
 use Rattle.action.specs.Lattice.{shifted, shift, shifts, chain, ladder, torus2, torus3}
 use Rattle.action.proofs.Lists.{length-below}
-use Rattle.action.proofs.Order.{order-divides, order-returns}
+use Rattle.action.proofs.ExactOrders.{order-divides, order-returns}
 
 -- a shift's target
 

@@ -11,7 +11,7 @@ use lib.Seq.{ext-getD, getD-set-same, getD-set-other}
 use Rattle.pauli_word.specs.Word.{I, Word}
 use Rattle.action.specs.Permutation.{target, after, exactOrder, Permutes, Commute}
 use Rattle.action.specs.Orbit.{place, move, moves}
-use Rattle.action.proofs.Order.{after-add, after-inside, order-returns, order-positive}
+use Rattle.action.proofs.ExactOrders.{after-add, after-inside, order-returns, order-positive}
 
 pub place-length : (ps : List ℕ) (w out : Word) → length (place ps w out) ≡ length out
 unfolding place

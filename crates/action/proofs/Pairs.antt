@@ -11,7 +11,7 @@ use mathlib.Core.List.{List, [], _∷_, map}
 use lib.IntN.{ℤ, pos}
 use lib.ListN.{length, replicate}
 use Rattle.pauli_word.specs.Word.{Letter, I, X, Y, Z, Word, sameLetter, same}
-use Rattle.pauli_word.proofs.Order.{same-refl, same-eq}
+use Rattle.pauli_word.proofs.WordOrder.{same-refl, same-eq}
 use Rattle.action.specs.Arithmetic.{product}
 use Rattle.action.specs.Lists.{below, Member, count, NoRepeats}
 use Rattle.action.specs.Permutation.{Generator, Valid}

@@ -10,7 +10,7 @@ use native.Mathlib.Nat.{div-eq-of-eq-mul-left, mul-mod-left, mul-one, zero-lt-su
 use native.Mathlib.Omega.{arith}
 use lib.ListN.{length}
 use Rattle.pauli_word.specs.Word.{Word, same}
-use Rattle.pauli_word.proofs.Order.{same-refl, same-eq}
+use Rattle.pauli_word.proofs.WordOrder.{same-refl, same-eq}
 use Rattle.action.specs.Lists.{below, Member, count, NoRepeats}
 use Rattle.action.specs.Permutation.{Generator, Valid}
 use Rattle.action.specs.Index.{orderOf, add, inverse}

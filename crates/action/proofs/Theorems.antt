@@ -11,7 +11,7 @@ use mathlib.Core.List.{List}
 use lib.IntN.{ℤ, pos, negsuc}
 use lib.ListN.{length, getD}
 use Rattle.pauli_word.specs.Word.{I, Word, bits, ones, same, less, weight}
-use Rattle.pauli_word.proofs.Order as WordOrder
+use Rattle.pauli_word.proofs.WordOrder as WordOrder
 use Rattle.pauli_word.proofs.Ones as Ones
 use Rattle.action.specs.Arithmetic.{product}
 use Rattle.action.specs.Lists.{Member, NoRepeats}
@@ -21,7 +21,7 @@ use Rattle.action.specs.Index.{orderOf, digits, Digits, index, addDigits
 use Rattle.action.specs.Orbit.{move, reach, stepped, orbit, isIn, least, forward, indexBack, fixes, fixing, orbitSize}
 use Rattle.action.specs.Sector.{modulus, reduced, numerator, reducedModes, reducedDigits, Modes, Character, keeps}
 use Rattle.action.specs.Count.{allWords, allModes, representatives, keptLists, keptPairs}
-use Rattle.action.proofs.Order as Order
+use Rattle.action.proofs.ExactOrders as Order
 use Rattle.action.proofs.Move as Move
 use Rattle.action.proofs.Index as Index
 use Rattle.action.proofs.Reach as Reach

@@ -18,8 +18,8 @@ use Rattle.action.proofs.Arithmetic.{gcd-left, lcmAll-divides}
 use Rattle.action.proofs.Lists.{of-member-map}
 use Rattle.action.proofs.Index.{valid-positive, order-of-positive, inverse-below}
 use Rattle.permutation.specs.Limits.{maxOrder}
-use Rattle.elements.specs.Tables.{generatorsIn, Tables}
-use Rattle.elements.proofs.Tables.{member-drop, rest-at, rest-end, rest-positive, order-positive-at}
+use Rattle.elements.specs.HeldGroup.{generatorsIn, Tables}
+use Rattle.elements.proofs.TableRows.{member-drop, rest-at, rest-end, rest-positive, order-positive-at}
 
 -- an order divides the group order
 order-divides : (gs : List Generator) (g : Generator) → Member g gs → g .order ∣ orderOf gs

@@ -1,10 +1,10 @@
--- The laws of the definitions: `Tables` of the group that tables hold, `Indices` of the loops over its generators, `Copies` of a list copied
--- over another, `Moves` of a word moved site by site, `Steps` of the walk's step, `Orbits` of the walk and of the list that it fills, `Leads` of
+-- The laws of the definitions: `TableRows` of the group that tables hold, `Indices` of the loops over its generators, `Copies` of a list copied
+-- over another, `Moves` of a word moved site by site, `Steps` of the walk's step, `Orbits` of the walk and of the list that it fills, `LeastSoFar` of
 -- the least word so far.
-pub mod Tables
+pub mod TableRows
 pub mod Indices
 pub mod Copies
 pub mod Moves
 pub mod Steps
 pub mod Orbits
-pub mod Leads
+pub mod LeastSoFar

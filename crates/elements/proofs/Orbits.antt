@@ -18,7 +18,7 @@ use Rattle.action.specs.Index.{orderOf, digits}
 use Rattle.action.specs.Orbit.{reach, stepped, orbitList}
 use Rattle.action.proofs.Lists.{length-below}
 use Rattle.action.proofs.Reach.{reach-length, reach-zero, reach-step}
-use Rattle.elements.specs.Tables.{generatorsIn, Tables, encodeAll}
+use Rattle.elements.specs.HeldGroup.{generatorsIn, Tables, encodeAll}
 
 -- ---- the entries of the orbit list, one after the other
 

@@ -17,8 +17,8 @@ use Rattle.action.specs.Index.{digits}
 use Rattle.action.specs.Orbit.{move, stepped}
 use Rattle.action.proofs.Move.{move-length}
 use Rattle.permutation.specs.Generators.{rowAt}
-use Rattle.elements.specs.Tables.{generatorsIn, Tables}
-use Rattle.elements.proofs.Tables.{rest-at, rest-end, permutes-at}
+use Rattle.elements.specs.HeldGroup.{generatorsIn, Tables}
+use Rattle.elements.proofs.TableRows.{rest-at, rest-end, permutes-at}
 
 module _ {k n : ℕ} {targets orders : List ℕ} (t : Tables k n targets orders) (g rest : ℕ) (w : Word) where
   stepped-at : g < k

@@ -1,2 +1,2 @@
 -- What the contracts of this crate say.
-pub mod Tables
+pub mod HeldGroup

@@ -5,7 +5,7 @@ ghost use Prim.Native.Nat.{_≤_, _<_};
 ghost use lib.ListN.{length, drop};
 ghost use Rattle.action.specs.Index.{orderOf, digits, inverse};
 ghost use Rattle.action.specs.Sector.{modulus};
-ghost use Rattle.elements.specs.Tables.{generatorsIn, Tables};
+ghost use Rattle.elements.specs.HeldGroup.{generatorsIn, Tables};
 
 // The group order: the product of the orders.
 pub fn order(targets: &[u32], orders: &[u32], generators: usize, sites: usize) -> usize

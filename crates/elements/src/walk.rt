@@ -9,7 +9,7 @@ ghost use Rattle.pauli_word.specs.Bytes.{AcceptedWord, lettersIn, bytesOf};
 ghost use Rattle.action.specs.Permutation.{Permutes};
 ghost use Rattle.action.specs.Index.{orderOf, digits};
 ghost use Rattle.action.specs.Orbit.{move as moveBy, stepped, orbitList, least, forward};
-ghost use Rattle.elements.specs.Tables.{generatorsIn, Tables, encodeAll};
+ghost use Rattle.elements.specs.HeldGroup.{generatorsIn, Tables, encodeAll};
 use pauli_word::MAX_SITES;
 use pauli_word::Ordering;
 use pauli_word::WORD_BYTES;
@@ -107,7 +107,7 @@ pub fn fill_orbit(
 }
 
 // Puts the word at hand, entry i of the walk, in the place of the best so far if it is less; the index of the one that leads then.
-pub fn take_lead(here: &[u8], sites: usize, i: usize, best: &mut [u8], index: usize) -> usize
+pub fn take_less(here: &[u8], sites: usize, i: usize, best: &mut [u8], index: usize) -> usize
     requires { ⌜ AcceptedWord sites (now here) ⌝ }
     requires { ⌜ AcceptedWord sites (now best) ⌝ }
     ensures index { λ r. ⌜ r ≡ cond (less (lettersIn sites (now (here .entry))) (lettersIn sites (now (best .entry)))) i index ⌝ }
@@ -142,7 +142,7 @@ pub fn canonicalize_odometer(
     let mut index = 0;
     let mut i = 0;
     while i < order {
-        index = take_lead(&here, sites, i, &mut best, index);
+        index = take_less(&here, sites, i, &mut best, index);
         advance(targets, orders, generators, sites, i, &mut here);
         i += 1;
     }

@@ -20,7 +20,7 @@ use Rattle.action.specs.Index.{orderOf}
 use Rattle.action.proofs.Lists.{member-below, of-member-below, every-intro, every-elim}
 use Rattle.permutation.specs.Limits.{maxGenerators, maxOrder, targetPlaces}
 use Rattle.permutation.specs.Generators.{endsInside, permsOf, generatorCount, counts, permsCheck, groupChecks, generatorChecks, declared, rowAt, rowsOf, written}
-use Rattle.permutation.proofs.Pairs.{rows-length, row-at}
+use Rattle.permutation.proofs.Commuting.{rows-length, row-at}
 use Rattle.outcome.proofs.Outcomes.{verdict-fine}
 use Rattle.permutation.proofs.Rules.{valid-of-checks, perms-fine, member-at}
 use Rattle.generators.specs.Tables.{filled, placed, placedAll, zeros, restsClear, unusedClear, holdGroup}

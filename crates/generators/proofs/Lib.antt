@@ -1,6 +1,6 @@
 -- The laws that the functions' proofs rest on, each file below those that it uses.
 pub mod Stores
-pub mod Lattices
+pub mod Shifts
 pub mod Zeros
 pub mod Written
 pub mod Faults

@@ -13,10 +13,10 @@ use Rattle.pauli_word.specs.Limits.{maxSites}
 use Rattle.outcome.specs.Outcome.{Check}
 use Rattle.action.specs.Lists.{from, below, every}
 use Rattle.action.specs.Permutation.{Permutes}
-use Rattle.action.proofs.Order.{order-positive}
+use Rattle.action.proofs.ExactOrders.{order-positive}
 use Rattle.outcome.specs.declared.Refusal.{Refusal}
 use Rattle.permutation.specs.Generators.{fine, broke, targetsCheck, permCheck, permsCheck, orderCheck, ordersCheck, rowAt, rowsOf}
-use Rattle.permutation.proofs.Pairs.{rows-length, row-at, rows-cons, rows-nil, row-target}
+use Rattle.permutation.proofs.Commuting.{rows-length, row-at, rows-cons, rows-nil, row-target}
 use Rattle.permutation.proofs.Rules.{perms-fine, orders-fine, member-at}
 use Rattle.generators.specs.Tables.{zeros, restsClear}
 use Rattle.generators.proofs.Faults.{perm-targets}

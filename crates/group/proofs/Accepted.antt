@@ -14,7 +14,7 @@ use Rattle.pauli_word.specs.Limits.{maxSites}
 use Rattle.pauli_word.specs.Calls.{siteCount}
 use Rattle.permutation.specs.Limits.{maxGenerators, targetPlaces}
 use Rattle.generators.proofs.Groups.{hold-valid}
-use Rattle.elements.specs.Tables.{generatorsIn, Tables}
+use Rattle.elements.specs.HeldGroup.{generatorsIn, Tables}
 use Rattle.group.specs.declared.Group.{Group}
 use Rattle.group.specs.Value.{isGroup, notAGroup, AcceptedGroup}
 use Rattle.group.specs.Calls.{valueChecks}

@@ -25,7 +25,7 @@ use Rattle.outcome.specs.declared.Refusal.the-variants as Refusal
 use Rattle.outcome.specs.declared.Verdict.the-variants as Verdict
 use Rattle.group.specs.declared.Made.{Made}
 use Rattle.group.specs.Value.{groupOf, noGroup, tryFromOutcome}
-use Rattle.group.proofs.Lattices.{same-group}
+use Rattle.group.proofs.LatticeCalls.{same-group}
 
 -- ---- the value of generators
 

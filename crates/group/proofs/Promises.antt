@@ -15,8 +15,8 @@ use Rattle.permutation.specs.Generators.{permsOf, listEnd, generatorChecks, dec
 use Rattle.group.specs.declared.Group.{Group}
 use Rattle.group.specs.Value.{groupOf, noGroup, tryFromOutcome, GivenBy, GivenAs, generatorsOf, isGroup, AcceptedGroup}
 use Rattle.group.specs.Calls.{chainOutcome, ladderOutcome, torus2Outcome, torus3Outcome}
-use Rattle.group.proofs.Lattices.{chain-axes, ladder-axes, torus2-axes, torus3-axes}
-use Rattle.group.proofs.Given as Given
+use Rattle.group.proofs.LatticeCalls.{chain-axes, ladder-axes, torus2-axes, torus3-axes}
+use Rattle.group.proofs.MadeGroups as Given
 
 -- ---- 1 What stands beside a refusal: no call takes it for a group
 

@@ -13,7 +13,7 @@ use Rattle.action.specs.Permutation.{Generator}
 use Rattle.permutation.specs.Limits.{maxGenerators, maxDeclared, targetPlaces}
 use Rattle.permutation.specs.Generators.{permsOf, listEnd, generatorChecks, declared, written}
 use Rattle.generators.specs.Tables.{filled, placedAll, holdGroup}
-use Rattle.elements.specs.Tables.{generatorsIn}
+use Rattle.elements.specs.HeldGroup.{generatorsIn}
 use Rattle.group.specs.declared.Group.{Group}
 
 -- ---- the value of generators: unused places are 0

@@ -31,11 +31,11 @@ use Rattle.orbit.proofs.Promises.{canonical-answer}
 use Rattle.group.proofs.Promises.{given-group}
 use Rattle.momentum.specs.Calls.{numeratorOutcome, numerators, tableOutcome, kept, dropped, Row, decision, sectorOutcome}
 use Rattle.momentum.specs.Counts.{acceptedWords, isOwn, isKept, pairs}
-use Rattle.momentum.proofs.Pairs as Pairs
+use Rattle.momentum.proofs.CountPairs as Pairs
 use Rattle.momentum.proofs.Words as Words
 use Rattle.momentum.proofs.Modes as Modes
-use Rattle.momentum.proofs.Given as Given
-use Rattle.momentum.proofs.Kept as Kept
+use Rattle.momentum.proofs.GivenGroups as Given
+use Rattle.momentum.proofs.KeptCalls as Kept
 use Rattle.momentum.proofs.Numerators as Numerators
 
 -- ---- The hypotheses: g is a group value that generators give which break none of the rules 1 to 13 (`GivenBy`). Its generators are gs, its sites

@@ -1,17 +1,17 @@
 -- The laws of momentum sectors, and demand 3, which is to be read first: `Demand3` has the statements.
 --
 -- `Remainders`: a mode's remainder. `Phases`: the sum of the generators' phases, and the table. `Traversals`: one traversal of the indices, test by test,
--- and what its answer says. `Outcomes`: what the calls come to. `Pairs`: lists of pairs and counts over them. `Words`: accepted words, listed as their
--- bytes. `Modes`: mode lists, reduced. `Given`: a group value that generators give. `Kept`: what modes keep, by the calls, and the counts over them.
+-- and what its answer says. `Outcomes`: what the calls come to. `CountPairs`: lists of pairs and counts over them. `Words`: accepted words, listed as their
+-- bytes. `Modes`: mode lists, reduced. `GivenGroups`: a group value that generators give. `KeptCalls`: what modes keep, by the calls, and the counts over them.
 -- `Numerators`: the numerators, by the calls.
 pub mod Remainders
 pub mod Phases
 pub mod Traversals
 pub mod Outcomes
-pub mod Pairs
+pub mod CountPairs
 pub mod Words
 pub mod Modes
-pub mod Given
-pub mod Kept
+pub mod GivenGroups
+pub mod KeptCalls
 pub mod Numerators
 pub mod Demand3

@@ -21,7 +21,7 @@ use Rattle.group.specs.Calls.{valueChecks, listLength}
 use Rattle.outcome.proofs.Outcomes.{unless-answer}
 use Rattle.momentum.specs.Calls.{modeCount, numeratorOutcome, numerators, tableOutcome, decision, sectorOutcome}
 use Rattle.momentum.proofs.Outcomes as Outcomes
-use Rattle.momentum.proofs.Given.{given-accepted, given-valid, given-length}
+use Rattle.momentum.proofs.GivenGroups.{given-accepted, given-valid, given-length}
 use Rattle.momentum.proofs.Modes.{reducedModes-length, reducedDigits-length, reduced-listed, keeps-reduced}
 use Rattle.pauli_word.specs.Bytes.{lettersIn}
 

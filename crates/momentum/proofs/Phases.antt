@@ -21,8 +21,8 @@ use Rattle.action.specs.Sector.{modulus, reduced, phases, numerator}
 use Rattle.action.proofs.Index.{valid-positive, digits-proper, digits-length}
 use Rattle.action.proofs.Characters as Characters
 use Rattle.permutation.specs.Limits.{maxOrder}
-use Rattle.elements.specs.Tables.{generatorsIn, Tables}
-use Rattle.elements.proofs.Tables.{generators-length, rest-at, rest-end}
+use Rattle.elements.specs.HeldGroup.{generatorsIn, Tables}
+use Rattle.elements.proofs.TableRows.{generators-length, rest-at, rest-end}
 use Rattle.elements.proofs.Orbits.{below-next}
 use Rattle.elements.proofs.Indices.{multiple-small, multiple-all}
 use Rattle.momentum.specs.Calls.{numerators}

@@ -24,9 +24,9 @@ use Rattle.action.specs.Sector.{trivial, keeps}
 use Rattle.action.proofs.Lists.{member-below, length-below, of-member-append, every-intro, every-elim, count-select, count-append}
 use Rattle.action.proofs.Reach.{reach-length}
 use Rattle.action.proofs.Stabilizer.{fixing-positive}
-use Rattle.elements.specs.Tables.{generatorsIn, Tables}
+use Rattle.elements.specs.HeldGroup.{generatorsIn, Tables}
 use Rattle.elements.proofs.Orbits.{below-next, walk-accepted}
-use Rattle.elements.proofs.Leads.{same-taken, same-left}
+use Rattle.elements.proofs.LeastSoFar.{same-taken, same-left}
 use Rattle.orbit.specs.Calls.{noWord}
 use Rattle.momentum.specs.declared.inner.Placement.{Placement}
 use Rattle.momentum.specs.declared.inner.Placement.the-variants as Placement

@@ -7,7 +7,7 @@ use lib.ListN.{length}
 use Rattle.pauli_word.specs.Limits.{maxSites, planeLength}
 use Rattle.pauli_word.specs.Word.{Word, same}
 use Rattle.pauli_word.specs.Bytes.{encode, AcceptedWord, lettersIn, bytesOf}
-use Rattle.pauli_word.proofs.Order.{same-refl, same-eq}
+use Rattle.pauli_word.proofs.WordOrder.{same-refl, same-eq}
 use Rattle.pauli_word.proofs.Words.{decode-length, encode-decode, encoded-accepted, encoded-decode}
 use Rattle.action.specs.Lists.{Member, NoRepeats, sameNumbers}
 use Rattle.action.specs.Count.{allWords}

@@ -4,7 +4,7 @@ ghost use Prim.Native.Nat.{_*_, _/_, _%_, _<_};
 ghost use lib.ListN.{length};
 ghost use Rattle.action.specs.Index.{orderOf, digits};
 ghost use Rattle.action.specs.Sector.{modulus as modulusOf, reduced, numerator as numeratorOf, trivial as trivialAt};
-ghost use Rattle.elements.specs.Tables.{generatorsIn, Tables};
+ghost use Rattle.elements.specs.HeldGroup.{generatorsIn, Tables};
 ghost use Rattle.momentum.specs.Calls.{numerators};
 use permutation::MAX_GENERATORS;
 

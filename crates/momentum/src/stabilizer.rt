@@ -6,7 +6,7 @@ ghost use Rattle.pauli_word.specs.Bytes.{AcceptedWord, lettersIn, bytesOf};
 ghost use Rattle.action.specs.Index.{orderOf};
 ghost use Rattle.action.specs.Orbit.{reach};
 ghost use Rattle.action.specs.Sector.{modulus as modulusOf};
-ghost use Rattle.elements.specs.Tables.{generatorsIn, Tables};
+ghost use Rattle.elements.specs.HeldGroup.{generatorsIn, Tables};
 ghost use Rattle.orbit.specs.Calls.{noWord};
 ghost use Rattle.momentum.specs.Parts.{testOf, placementOf};
 ghost use Rattle.momentum.specs.Calls.{decision, rowWord, dropped};
@@ -98,7 +98,7 @@ pub fn canonicalize_with_stabilizer(
             Test::Fixes => fixing += 1,
             Test::Moves => {}
         }
-        index = elements::walk::take_lead(&here, sites, i, &mut best, index);
+        index = elements::walk::take_less(&here, sites, i, &mut best, index);
         elements::walk::advance(targets, orders, generators, sites, i, &mut here);
         i += 1;
     }

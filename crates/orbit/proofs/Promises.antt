@@ -21,7 +21,7 @@ use Rattle.elements.proofs.Orbits.{entries, entries-all}
 use Rattle.group.specs.declared.Group.{Group}
 use Rattle.group.specs.Value.{generatorsOf, AcceptedGroup}
 use Rattle.group.proofs.Promises.{no-group}
-use Rattle.group.proofs.Given.{held-valid}
+use Rattle.group.proofs.MadeGroups.{held-valid}
 use Rattle.orbit.specs.declared.Walk.{Walk}
 use Rattle.orbit.specs.Calls.{wordCallChecks, withIndexOutcome, isWalk, noWalk, beginOutcome, entry, finished, nextOutcome, entryWord}
 use Rattle.orbit.specs.Walked.{walked, wordsGiven, Reached, CanonicalAnswer}

@@ -19,7 +19,7 @@ use Rattle.action.specs.Lists.{from, below}
 use Rattle.action.specs.Index.{orderOf, inverse}
 use Rattle.action.specs.Orbit.{reach}
 use Rattle.action.proofs.Reach.{reach-length, reach-of-inverse}
-use Rattle.elements.specs.Tables.{Tables}
+use Rattle.elements.specs.HeldGroup.{Tables}
 use Rattle.elements.proofs.Orbits.{entries, entries-next, walk-start, walk-accepted, walk-next}
 use Rattle.group.specs.declared.Group.{Group}
 use Rattle.orbit.specs.declared.Walk.{Walk}
@@ -28,7 +28,7 @@ use Rattle.orbit.specs.Calls.{wordCallChecks, isWalk, beginOutcome, Entr
 use Rattle.orbit.proofs.Walking.{walk-word, walk-index}
 use Rattle.group.proofs.Accepted.{accepted-tables}
 use Rattle.orbit.proofs.Outcomes.{next-entry, next-finished}
-use Rattle.group.proofs.Given.{held-valid}
+use Rattle.group.proofs.MadeGroups.{held-valid}
 use Rattle.orbit.proofs.WordCalls.{word-call-passes}
 use Rattle.orbit.specs.Walked.{walked, wordsGiven, wordGiven, stepOn}
 

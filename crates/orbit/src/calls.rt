@@ -3,7 +3,7 @@ ghost use mathlib.Core.Path.{_≡_};
 ghost use lib.ListN.{length};
 ghost use Rattle.outcome.specs.Outcome.{outcomeOfVerdict, onAnswer, done, orElse};
 ghost use Rattle.pauli_word.specs.Bytes.{AcceptedWord};
-ghost use Rattle.elements.specs.Tables.{encodeAll};
+ghost use Rattle.elements.specs.HeldGroup.{encodeAll};
 ghost use Rattle.group.specs.Value.{AcceptedGroup};
 ghost use Rattle.orbit.specs.Calls.{withShiftOutcome, wordOf, shiftOf, orbitListOutcome, noWord};
 use crate::Canonical;

@@ -10,7 +10,7 @@ ghost use mathlib.Core.Path.{_≡_};
 ghost use lib.ListN.{length};
 ghost use Rattle.outcome.specs.Outcome.{outcomeOfVerdict, outcomeOfNumber, onAnswer, done, itself, orElse};
 ghost use Rattle.pauli_word.specs.Bytes.{bytesOf};
-ghost use Rattle.elements.specs.Tables.{encodeAll};
+ghost use Rattle.elements.specs.HeldGroup.{encodeAll};
 ghost use Rattle.orbit.specs.Calls.{outcomeOfStep, canonicalizeOutcome, withIndexOutcome, withShiftOutcome, orbitListOutcome, noWord, beginOutcome, noWalk, nextOutcome, entryWord, afterEntry, wordOf, indexOf, shiftOf};
 use group::Group;
 use outcome::Number;

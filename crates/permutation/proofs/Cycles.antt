@@ -16,7 +16,7 @@ use Rattle.action.specs.Lists.{below, Member}
 use Rattle.action.specs.Permutation.{target, after, cycleLength, exactOrder, Permutes}
 use Rattle.action.proofs.Lists.{of-member-below, of-member-map}
 use Rattle.action.proofs.Arithmetic.{lcm-left, lcm-right, lcm-divides, lcm-positive, lcmAll-divides}
-use Rattle.action.proofs.Order.{after-add, after-inside, after-apart, comes-back, cycle-least, cycle-positive, cycle-returns, cycle-divides, cycle-order, order-positive}
+use Rattle.action.proofs.ExactOrders.{after-add, after-inside, after-apart, comes-back, cycle-least, cycle-positive, cycle-returns, cycle-divides, cycle-order, order-positive}
 use Rattle.outcome.specs.declared.Refusal.the-variants as Refusal
 use Rattle.outcome.specs.Outcome.{answer, refusalOf}
 use Rattle.permutation.specs.Limits.{maxDeclared}

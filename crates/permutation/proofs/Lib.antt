@@ -3,5 +3,5 @@ pub mod Divisors
 pub mod Products
 pub mod Faults
 pub mod Cycles
-pub mod Pairs
+pub mod Commuting
 pub mod Rules

@@ -13,7 +13,7 @@ use borrow.Author.Tests.{leb-false, lt-leb, eqb-false, ne-eqb, eqb-true, eq-eqb,
 use Rattle.action.specs.Lists.{Member}
 use Rattle.action.specs.Permutation.{Generator, exactOrder, Permutes, Commute, Valid}
 use Rattle.action.specs.Index.{orderOf}
-use Rattle.action.proofs.Order.{order-positive}
+use Rattle.action.proofs.ExactOrders.{order-positive}
 use Rattle.outcome.specs.declared.Refusal.{Refusal}
 use Rattle.outcome.specs.declared.Refusal.the-variants as Refusal
 use Rattle.outcome.proofs.Outcomes.{verdict-fine}
@@ -21,7 +21,7 @@ use Rattle.outcome.specs.Outcome.{answer, Check, verdict}
 use Rattle.permutation.specs.Limits.{maxOrder, maxDeclared, maxWide}
 use Rattle.action.specs.Arithmetic.{product}
 use Rattle.permutation.specs.Generators.{fine, broke, among, targetsCheck, permCheck, permsCheck, orNext, orderCheck, ordersCheck, commuteAt, withRight, pairsCheck, orderOverflow, orderLimit, groupChecks, declared}
-use Rattle.permutation.proofs.Pairs.{commuteAt-true, of-commuteAt}
+use Rattle.permutation.proofs.Commuting.{commuteAt-true, of-commuteAt}
 use Rattle.permutation.proofs.Products.{product-holds}
 
 -- of two rules neither is broken

@@ -22,7 +22,7 @@ use Rattle.permutation.specs.Generators.{declared, written}
 use Rattle.group.specs.declared.Group.{Group}
 use Rattle.group.specs.Value.{groupOf, generatorsOf, AcceptedGroup, GivenAs}
 use Rattle.group.specs.Calls.{latticeOutcome, chainOutcome, ladderOutcome, torus2Outcome, torus3Outcome}
-use Rattle.group.proofs.Given.{declared-parts, made-accepted, made-means}
+use Rattle.group.proofs.MadeGroups.{declared-parts, made-accepted, made-means}
 use Rattle.group.proofs.Promises.{chain-generators, ladder-generators, torus2-generators, torus3-generators}
 use Rattle.text.specs.Text.{isNumber, numberOf}
 use Rattle.text.specs.Parts.{fourFields}

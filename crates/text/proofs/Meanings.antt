@@ -15,7 +15,7 @@ use mir.Syntax.{w32}
 use mir.Val.{SFits}
 use Rattle.pauli_word.specs.Bytes.{byteValues}
 use Rattle.action.specs.Lists.{from, below, select, count, every}
-use Rattle.text.specs.Text.{lineEnd, space, minus, zeroDigit, nineDigit, before, extended, pieces, isDigit, isNumber, numberOf, modeBound, isMode, modeOf, digitsOf, wideDigits, decimal, put}
+use Rattle.text.specs.Text.{lineEnd, space, minus, zeroDigit, nineDigit, before, extended, pieces, isDigit, isNumber, numberOf, modeBound, isMode, modeOf, digitsOf, wideDigits, decimal, put, parted, modeText}
 use Rattle.text.specs.Parts.{modeRead, fieldFrom, fourFields, fieldLength, fieldsRead}
 use Rattle.text.specs.Quoted.{bytes}
 use Rattle.text.specs.declared.read.Mode.the-variants as Mode
@@ -35,12 +35,6 @@ unfolding select below from
 digit-bytes = refl
 
 -- ---- pieces
-
--- pieces with a byte between them
-abbrev pub parted : ℕ → List (List ℕ) → List ℕ
-parted c [] = []
-parted c (p ∷ []) = p
-parted c (p ∷ q ∷ ps) = p ++ (c ∷ parted c (q ∷ ps))
 
 parted-extended : (c b : ℕ) (p : List ℕ) (ps : List (List ℕ)) → parted c ((b ∷ p) ∷ ps) ≡ b ∷ parted c (p ∷ ps)
 parted-extended c b p [] = refl
@@ -147,11 +141,6 @@ unfolding decimal digitsOf
 decimal-examples = refl
 
 -- ---- modes
-
--- a signed number in decimal
-abbrev pub modeText : ℤ → List ℕ
-modeText (pos n) = decimal n
-modeText (negsuc n) = minus ∷ decimal (suc n)
 
 pub mode-text : (z : ℤ) → SFits w32 z → (isMode (modeText z) ≡ true) × (modeOf (modeText z) ≡ z)
 mode-text (pos n) fits =

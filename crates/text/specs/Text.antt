@@ -41,6 +41,12 @@ unfoldable pub pieces : ℕ → List ℕ → List (List ℕ)
 pieces c [] = [] ∷ []
 pieces c (b ∷ bs) = let ps = pieces c bs in cond (eqb b c) ([] ∷ ps) (extended b ps)
 
+-- pieces with a byte between them
+abbrev pub parted : ℕ → List (List ℕ) → List ℕ
+parted c [] = []
+parted c (p ∷ []) = p
+parted c (p ∷ q ∷ ps) = p ++ (c ∷ parted c (q ∷ ps))
+
 -- ---- numbers
 
 abbrev pub isDigit : ℕ → Bool
@@ -93,6 +99,11 @@ wideDigits = 20
 unfoldable pub decimal : ℕ → List ℕ
 unfolding digitsOf
 decimal n = digitsOf wideDigits n
+
+-- a signed number in decimal
+abbrev pub modeText : ℤ → List ℕ
+modeText (pos n) = decimal n
+modeText (negsuc n) = minus ∷ decimal (suc n)
 
 -- the most digits of a number that is written
 abbrev pub maxDigits : ℕ

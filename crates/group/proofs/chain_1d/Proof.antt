@@ -2,7 +2,7 @@
 use mathlib.Core.Path.{sym, ap, _∙_}
 use Rattle.outcome.specs.Outcome.{onAnswer, done, itself, orElse}
 use Rattle.group.specs.Value.{noGroup}
-use Rattle.group.proofs.Lattices.{chain-axes}
+use Rattle.group.proofs.LatticeCalls.{chain-axes}
 use borrow.Author.Needs.{needs}
 use Rattle.group.proofs.chain_1d.Statement.{statement}
 use Rattle.group.proofs.chain_1d.Tie as tie

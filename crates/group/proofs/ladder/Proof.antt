@@ -2,7 +2,7 @@
 use mathlib.Core.Path.{sym, ap, _∙_}
 use Rattle.outcome.specs.Outcome.{onAnswer, done, itself, orElse}
 use Rattle.group.specs.Value.{noGroup}
-use Rattle.group.proofs.Lattices.{ladder-axes}
+use Rattle.group.proofs.LatticeCalls.{ladder-axes}
 use borrow.Author.Needs.{needs}
 use Rattle.group.proofs.ladder.Statement.{statement}
 use Rattle.group.proofs.ladder.Tie as tie

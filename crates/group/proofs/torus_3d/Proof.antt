@@ -2,7 +2,7 @@
 use mathlib.Core.Path.{sym, ap, _∙_}
 use Rattle.outcome.specs.Outcome.{onAnswer, done, itself, orElse}
 use Rattle.group.specs.Value.{noGroup}
-use Rattle.group.proofs.Lattices.{torus3-axes}
+use Rattle.group.proofs.LatticeCalls.{torus3-axes}
 use borrow.Author.Needs.{needs}
 use Rattle.group.proofs.torus_3d.Statement.{statement}
 use Rattle.group.proofs.torus_3d.Tie as tie

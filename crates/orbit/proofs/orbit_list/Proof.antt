@@ -6,7 +6,7 @@ use denote.Ref.{now}
 use mathlib.Core.List.{[], _∷_}
 use Rattle.outcome.specs.Outcome.{answer, onAnswer, orElse, done}
 use Rattle.pauli_word.proofs.Planes.{bytes-of}
-use Rattle.elements.specs.Tables.{encodeAll}
+use Rattle.elements.specs.HeldGroup.{encodeAll}
 use Rattle.orbit.specs.Calls.{orbitListOutcome, wordCallChecks}
 use Rattle.orbit.proofs.WordCalls.{call-sites, call-accepted}
 use borrow.Author.Needs.{needs}

@@ -6,7 +6,7 @@ use Rattle.outcome.proofs.Outcomes.{call-refused, call-answers}
 use Rattle.pauli_word.specs.Bytes.{lettersIn}
 use Rattle.pauli_word.specs.Calls.{compareChecks, compareOutcome, orderOfWords}
 use Rattle.pauli_word.proofs.Planes.{bytes-of}
-use Rattle.pauli_word.proofs.Order.{order-words}
+use Rattle.pauli_word.proofs.WordOrder.{order-words}
 use Rattle.pauli_word.proofs.Checks.{compare-accepted}
 use borrow.Author.Needs.{needs}
 use Rattle.pauli_word.proofs.compare.Statement.{statement}

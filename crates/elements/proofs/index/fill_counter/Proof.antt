@@ -6,8 +6,8 @@ use native.Mathlib.Nat.{mod-lt}
 use native.Mathlib.Omega.{arith}
 use lib.ListN.{length, take, drop, length-set}
 use Rattle.action.specs.Index.{digits}
-use Rattle.elements.specs.Tables.{generatorsIn}
-use Rattle.elements.proofs.Tables.{order-positive-at}
+use Rattle.elements.specs.HeldGroup.{generatorsIn}
+use Rattle.elements.proofs.TableRows.{order-positive-at}
 use Rattle.elements.proofs.Indices.{counter-next, counter-end}
 use Rattle.elements.proofs.index.fill_counter.Statement.{statement}
 use Rattle.elements.proofs.index.fill_counter.Tie as tie

@@ -5,8 +5,8 @@ use native.Mathlib.Nat.{one-mul, mod-lt}
 use native.Mathlib.Omega.{arith}
 use lib.ListN.{drop}
 use Rattle.action.specs.Index.{orderOf, inverse}
-use Rattle.elements.specs.Tables.{generatorsIn}
-use Rattle.elements.proofs.Tables.{order-positive-at}
+use Rattle.elements.specs.HeldGroup.{generatorsIn}
+use Rattle.elements.proofs.TableRows.{order-positive-at}
 use Rattle.elements.proofs.Indices.{factor-small, order-next, inverse-next, inverse-small, inverse-end}
 use Rattle.elements.proofs.index.invert.Statement.{statement}
 use Rattle.elements.proofs.index.invert.Tie as tie

@@ -5,7 +5,7 @@ use native.Mathlib.Nat.{one-mul}
 use native.Mathlib.Omega.{arith}
 use lib.ListN.{drop}
 use Rattle.action.specs.Index.{orderOf}
-use Rattle.elements.specs.Tables.{generatorsIn}
+use Rattle.elements.specs.HeldGroup.{generatorsIn}
 use Rattle.elements.proofs.Indices.{factor-small, order-next, order-end}
 use Rattle.elements.proofs.index.order.Statement.{statement}
 use Rattle.elements.proofs.index.order.Tie as tie

@@ -3,7 +3,7 @@ use Prim.Native.Nat.{_-_, _≤_}
 use mathlib.Core.Path.{_≡_, sym, _∙_}
 use native.Mathlib.Omega.{arith}
 use lib.ListN.{drop}
-use Rattle.elements.specs.Tables.{generatorsIn}
+use Rattle.elements.specs.HeldGroup.{generatorsIn}
 use Rattle.elements.proofs.Indices.{multiple, multiple-all, multiple-small, multiple-next, multiple-end, gcd-positive}
 use Rattle.elements.proofs.index.phase_modulus.Statement.{statement}
 use Rattle.elements.proofs.index.phase_modulus.Tie as tie

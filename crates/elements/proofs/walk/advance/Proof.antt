@@ -9,8 +9,8 @@ use Rattle.pauli_word.specs.Bytes.{AcceptedWord, lettersIn, bytesOf}
 use Rattle.pauli_word.proofs.Words.{encode-length}
 use Rattle.action.specs.Index.{digits}
 use Rattle.action.specs.Orbit.{stepped}
-use Rattle.elements.specs.Tables.{generatorsIn}
-use Rattle.elements.proofs.Tables.{order-positive-at}
+use Rattle.elements.specs.HeldGroup.{generatorsIn}
+use Rattle.elements.proofs.TableRows.{order-positive-at}
 use Rattle.elements.proofs.Steps.{part-permutes, moved-accepted, moved-last, moved-on, moved-end}
 use Rattle.elements.proofs.walk.advance.Statement.{statement}
 use Rattle.elements.proofs.walk.advance.Tie as tie

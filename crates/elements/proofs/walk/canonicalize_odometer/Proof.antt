@@ -6,9 +6,9 @@ use denote.Ref.{now}
 use Rattle.pauli_word.specs.Bytes.{AcceptedWord, lettersIn, bytesOf}
 use Rattle.pauli_word.proofs.Words.{decode-length}
 use Rattle.action.specs.Orbit.{reach, firstAt}
-use Rattle.elements.specs.Tables.{generatorsIn}
+use Rattle.elements.specs.HeldGroup.{generatorsIn}
 use Rattle.elements.proofs.Orbits.{entries, walk-start, walk-accepted, walk-next}
-use Rattle.elements.proofs.Leads.{lead, lead-start, place-start, lead-accepted, lead-bytes, lead-place, lead-end, place-end}
+use Rattle.elements.proofs.LeastSoFar.{lead, lead-start, place-start, lead-accepted, lead-bytes, lead-place, lead-end, place-end}
 use Rattle.elements.proofs.walk.canonicalize_odometer.Statement.{statement}
 use Rattle.elements.proofs.walk.canonicalize_odometer.Tie as tie
 
@@ -56,14 +56,14 @@ loop-holds c =
       place-start gs w,
     )
 
-slice-aggregate-take-lead : tie.Need-slice-aggregate-take-lead Inv-loop μ-loop
-slice-aggregate-take-lead c = sym (here-accepted (c .before .before) .long)
+slice-aggregate-take-less : tie.Need-slice-aggregate-take-less Inv-loop μ-loop
+slice-aggregate-take-less c = sym (here-accepted (c .before .before) .long)
 
-slice-aggregate-take-lead-2 : tie.Need-slice-aggregate-take-lead-2 Inv-loop μ-loop
-slice-aggregate-take-lead-2 c = sym (best-accepted (c .before .before .before) .long)
+slice-aggregate-take-less-2 : tie.Need-slice-aggregate-take-less-2 Inv-loop μ-loop
+slice-aggregate-take-less-2 c = sym (best-accepted (c .before .before .before) .long)
 
-take-lead-requires : tie.Need-take-lead-requires Inv-loop μ-loop
-take-lead-requires c κs = (here-accepted (c .before .before .before), best-accepted (c .before .before .before))
+take-less-requires : tie.Need-take-less-requires Inv-loop μ-loop
+take-less-requires c κs = (here-accepted (c .before .before .before), best-accepted (c .before .before .before))
 
 slice-aggregate-advance : tie.Need-slice-aggregate-advance Inv-loop μ-loop
 slice-aggregate-advance c = sym (here-accepted (c .before .before .before .before .before .before) .long)
@@ -86,7 +86,7 @@ loop-again c =
     let t = s .pre .0 in
     let w = lettersIn (s .args .sites) (now (s .args .word)) in
     let long = decode-length (s .pre .1 .0) in
-    let lead = c .before .before .before .before .take-lead .ensures in (
+    let lead = c .before .before .before .before .take-less .ensures in (
       omega (arith, c .before .before .before .before .before .before .before .loop-test .taken),
       walk-next t w long (l .i) (l .inv .1) (c .before .advance .ensures),
       lead-bytes t w long (l .i) (l .inv .1) (l .inv .2) (lead .1),
@@ -112,9 +112,9 @@ canonicalize-odometer-spec =
     slice-aggregate-copy-2
     copy-requires-2
     loop-holds
-    slice-aggregate-take-lead
-    slice-aggregate-take-lead-2
-    take-lead-requires
+    slice-aggregate-take-less
+    slice-aggregate-take-less-2
+    take-less-requires
     slice-aggregate-advance
     advance-requires
     add-i

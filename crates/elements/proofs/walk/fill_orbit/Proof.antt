@@ -8,7 +8,7 @@ use Rattle.pauli_word.specs.Limits.{wordLength}
 use Rattle.pauli_word.specs.Bytes.{AcceptedWord, lettersIn, bytesOf}
 use Rattle.pauli_word.proofs.Words.{decode-length}
 use Rattle.action.specs.Orbit.{reach}
-use Rattle.elements.specs.Tables.{generatorsIn}
+use Rattle.elements.specs.HeldGroup.{generatorsIn}
 use Rattle.elements.proofs.Orbits.{walk-start, walk-accepted, walk-next, filled, filled-start, filled-length, part-length, filled-next, filled-end}
 use Rattle.elements.proofs.walk.fill_orbit.Statement.{statement}
 use Rattle.elements.proofs.walk.fill_orbit.Tie as tie

@@ -6,7 +6,7 @@ use lib.ListN.{length, length-set}
 use denote.Ref.{now}
 use Rattle.action.specs.Lattice.{shifted}
 use Rattle.generators.proofs.Stores.{Holds, holds-next}
-use Rattle.generators.proofs.Lattices.{shifted-small, shift-stored}
+use Rattle.generators.proofs.Shifts.{shifted-small, shift-stored}
 use Rattle.generators.proofs.lattice.fill_shift.Statement.{statement}
 use Rattle.generators.proofs.lattice.fill_shift.Tie as tie
 use Rattle.pauli_word.specs.Limits.{maxSites}

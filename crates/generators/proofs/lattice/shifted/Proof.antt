@@ -4,7 +4,7 @@ use native.Mathlib.Omega.{arith}
 use native.Mathlib.Nat.{mul-pos}
 use borrow.Author.Needs.{needs}
 use Rattle.action.specs.Lattice.{shifted}
-use Rattle.generators.proofs.Lattices.{place-small, low-small, axis-small, high-small}
+use Rattle.generators.proofs.Shifts.{place-small, low-small, axis-small, high-small}
 use Rattle.generators.proofs.lattice.shifted.Statement.{statement}
 use Rattle.generators.proofs.lattice.shifted.Tie as tie
 use Rattle.pauli_word.specs.Limits.{maxSites}

@@ -3,7 +3,7 @@ use mathlib.Core.Path.{sym}
 use native.Mathlib.Nat.{zero-mul, mul-zero}
 use native.Mathlib.Omega.{arith}
 use borrow.Author.Needs.{needs}
-use Rattle.generators.proofs.Lattices.{sides-zero, two-large, two-fit, two-positive, three-large, three-fit, sides-fit}
+use Rattle.generators.proofs.Shifts.{sides-zero, two-large, two-fit, two-positive, three-large, three-fit, sides-fit}
 use Rattle.generators.proofs.lattice.sites_of.Statement.{statement}
 use Rattle.generators.proofs.lattice.sites_of.Tie as tie
 

@@ -7,7 +7,7 @@ use denote.Ref.{now}
 use Rattle.outcome.specs.Outcome.{onAnswer, orElse, done, itself}
 use Rattle.action.specs.Index.{digits}
 use Rattle.group.specs.Value.{generatorsOf}
-use Rattle.elements.specs.Tables.{Tables}
+use Rattle.elements.specs.HeldGroup.{Tables}
 use Rattle.group.proofs.Accepted.{accepted-tables}
 use Rattle.group.proofs.Outcomes.{overwritten, counter-range, counter-length, counter-answer}
 use borrow.Author.Needs.{needs}

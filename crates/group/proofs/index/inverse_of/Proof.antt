@@ -3,7 +3,7 @@ use mathlib.Core.Path.{sym, ap, _∙_}
 use native.Mathlib.Omega.{arith}
 use Rattle.outcome.specs.Outcome.{answer}
 use Rattle.group.specs.Value.{generatorsOf}
-use Rattle.elements.specs.Tables.{Tables}
+use Rattle.elements.specs.HeldGroup.{Tables}
 use Rattle.group.proofs.Accepted.{accepted-tables}
 use Rattle.group.proofs.Outcomes.{invert-range, invert-answer}
 use borrow.Author.Needs.{needs}

@@ -1,6 +1,6 @@
 -- `inner::order_of` meets its contract: an accepted group's tables hold its generators (`accepted-tables`).
 use Rattle.group.specs.Value.{generatorsOf}
-use Rattle.elements.specs.Tables.{Tables}
+use Rattle.elements.specs.HeldGroup.{Tables}
 use Rattle.group.proofs.Accepted.{accepted-tables}
 use borrow.Author.Needs.{needs}
 use Rattle.group.proofs.inner.order_of.Statement.{statement}

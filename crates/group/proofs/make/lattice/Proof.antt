@@ -11,7 +11,7 @@ use Rattle.permutation.specs.Limits.{maxGenerators}
 use Rattle.generators.specs.Tables.{filled, placedAll}
 use Rattle.generators.specs.Parts.{sidesOutcome}
 use Rattle.group.specs.Value.{noGroup}
-use Rattle.group.proofs.Lattices.{axes-refused, axes-sized, axes-made}
+use Rattle.group.proofs.LatticeCalls.{axes-refused, axes-sized, axes-made}
 use borrow.Author.Needs.{needs}
 use Rattle.group.proofs.make.lattice.Statement.{statement}
 use Rattle.group.proofs.make.lattice.Tie as tie

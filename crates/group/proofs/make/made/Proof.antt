@@ -17,7 +17,7 @@ use Rattle.generators.proofs.Reading.{passing-all}
 use Rattle.generators.proofs.Rows.{rows-permute}
 use Rattle.outcome.proofs.Outcomes.{answered-fine}
 use Rattle.group.specs.Value.{noGroup}
-use Rattle.group.proofs.Lattices.{same-group}
+use Rattle.group.proofs.LatticeCalls.{same-group}
 use Rattle.group.proofs.Making.{tryChecks, refused-made, answered-made, perms-refused, group-decides, rows-filled, orders-filled}
 use borrow.Author.Needs.{needs}
 use Rattle.group.proofs.make.made.Statement.{statement}

@@ -8,7 +8,7 @@ use denote.Ref.{now}
 use borrow.Author.Needs.{needs}
 use Rattle.outcome.specs.Outcome.{answer, onAnswer, orElse}
 use Rattle.action.specs.Index.{digits}
-use Rattle.elements.specs.Tables.{Tables}
+use Rattle.elements.specs.HeldGroup.{Tables}
 use Rattle.group.specs.Value.{generatorsOf}
 use Rattle.orbit.specs.Calls.{noWord}
 use Rattle.group.proofs.Accepted.{accepted-tables}

@@ -4,7 +4,7 @@ use mathlib.Core.Path.{sym, ap, _∙_}
 use denote.Ref.{now}
 use borrow.Author.Needs.{needs}
 use Rattle.outcome.specs.Outcome.{answer}
-use Rattle.elements.specs.Tables.{Tables}
+use Rattle.elements.specs.HeldGroup.{Tables}
 use Rattle.group.specs.Value.{generatorsOf}
 use Rattle.group.proofs.Accepted.{accepted-tables}
 use Rattle.momentum.proofs.Outcomes.{numerator-modes, numerator-length, numerator-answer}

@@ -1,5 +1,5 @@
 -- `inner::placement_of` meets its contract: it hands the tables of the group to the traversal.
-use Rattle.elements.specs.Tables.{Tables}
+use Rattle.elements.specs.HeldGroup.{Tables}
 use Rattle.group.specs.Value.{generatorsOf}
 use Rattle.group.proofs.Accepted.{accepted-tables}
 use borrow.Author.Needs.{needs}

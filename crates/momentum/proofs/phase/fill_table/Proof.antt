@@ -5,7 +5,7 @@ use native.Mathlib.Omega.{arith}
 use denote.Ref.{now}
 use lib.ListN.{length, take, length-set}
 use Rattle.action.specs.Lists.{from, below}
-use Rattle.elements.specs.Tables.{generatorsIn}
+use Rattle.elements.specs.HeldGroup.{generatorsIn}
 use Rattle.momentum.proofs.Phases.{entries, entries-next, entries-end}
 use Rattle.momentum.proofs.phase.fill_table.Statement.{statement}
 use Rattle.momentum.proofs.phase.fill_table.Tie as tie

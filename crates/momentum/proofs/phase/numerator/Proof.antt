@@ -9,8 +9,8 @@ use lib.IntN.{pos}
 use Rattle.momentum.proofs.Phases.{turn, turn-small, turn-read, sum-next, sum-numerator, modulus-small, modulus-positive}
 use Rattle.action.specs.Sector.{phases}
 use Rattle.permutation.specs.Limits.{maxOrder}
-use Rattle.elements.specs.Tables.{generatorsIn}
-use Rattle.elements.proofs.Tables.{order-positive-at}
+use Rattle.elements.specs.HeldGroup.{generatorsIn}
+use Rattle.elements.proofs.TableRows.{order-positive-at}
 use Rattle.momentum.proofs.phase.numerator.Statement.{statement}
 use Rattle.momentum.proofs.phase.numerator.Tie as tie
 

@@ -3,7 +3,7 @@ use mathlib.Core.Path.{ap, _∙_}
 use denote.Ref.{now}
 use borrow.Author.Needs.{needs}
 use Rattle.action.specs.Sector.{numerator}
-use Rattle.elements.specs.Tables.{generatorsIn}
+use Rattle.elements.specs.HeldGroup.{generatorsIn}
 use Rattle.momentum.proofs.Phases.{counter-digits, counter-length}
 use Rattle.momentum.proofs.phase.numerator_at.Statement.{statement}
 use Rattle.momentum.proofs.phase.numerator_at.Tie as tie

@@ -10,9 +10,9 @@ use Rattle.pauli_word.specs.Bytes.{AcceptedWord, lettersIn, bytesOf}
 use Rattle.pauli_word.proofs.Words.{decode-length}
 use Rattle.action.specs.Index.{orderOf}
 use Rattle.action.specs.Orbit.{reach, firstAt}
-use Rattle.elements.specs.Tables.{generatorsIn}
+use Rattle.elements.specs.HeldGroup.{generatorsIn}
 use Rattle.elements.proofs.Orbits.{entries, walk-start, walk-accepted, walk-next}
-use Rattle.elements.proofs.Leads.{lead, lead-start, place-start, lead-accepted, lead-bytes, lead-place, lead-end, place-end}
+use Rattle.elements.proofs.LeastSoFar.{lead, lead-start, place-start, lead-accepted, lead-bytes, lead-place, lead-end, place-end}
 use Rattle.momentum.proofs.Traversals.{Passed, passed-start, passed-few, passed-moves, passed-fixes, placed-kept, word-kept, placed-broken, word-broken, fixing-some}
 use Rattle.momentum.proofs.stabilizer.canonicalize_with_stabilizer.Statement.{statement}
 use Rattle.momentum.proofs.stabilizer.canonicalize_with_stabilizer.Tie as tie
@@ -118,14 +118,14 @@ add-fixing c =
 enum-told-3 : tie.Need-enum-told-3 Inv-loop μ-loop
 enum-told-3 c = search needs
 
-slice-aggregate-take-lead : tie.Need-slice-aggregate-take-lead Inv-loop μ-loop
-slice-aggregate-take-lead c = sym (here-accepted (c .before .before .before .before .before) .long)
+slice-aggregate-take-less : tie.Need-slice-aggregate-take-less Inv-loop μ-loop
+slice-aggregate-take-less c = sym (here-accepted (c .before .before .before .before .before) .long)
 
-slice-aggregate-take-lead-2 : tie.Need-slice-aggregate-take-lead-2 Inv-loop μ-loop
-slice-aggregate-take-lead-2 c = sym (best-accepted (c .before .before .before .before .before .before) .long)
+slice-aggregate-take-less-2 : tie.Need-slice-aggregate-take-less-2 Inv-loop μ-loop
+slice-aggregate-take-less-2 c = sym (best-accepted (c .before .before .before .before .before .before) .long)
 
-take-lead-requires : tie.Need-take-lead-requires Inv-loop μ-loop
-take-lead-requires c κs = let l = c .before .before .before .before .before .before in (here-accepted l, best-accepted l)
+take-less-requires : tie.Need-take-less-requires Inv-loop μ-loop
+take-less-requires c κs = let l = c .before .before .before .before .before .before in (here-accepted l, best-accepted l)
 
 slice-aggregate-advance : tie.Need-slice-aggregate-advance Inv-loop μ-loop
 slice-aggregate-advance c = sym (here-accepted (c .before .before .before .before .before .before .before .before .before) .long)
@@ -154,7 +154,7 @@ loop-again c =
     let gs = generatorsIn (s .args .generators) (s .args .sites) (now (s .args .targets)) (now (s .args .orders)) in
     let w = lettersIn (s .args .sites) (now (s .args .word)) in
     let long = decode-length (s .pre .1 .1 .1 .1) in
-    let lead = c .before .before .before .before .take-lead .ensures in
+    let lead = c .before .before .before .before .take-less .ensures in
     let test = sym (c .before .before .before .before .before .before .before .before .tested .ensures) in
     let came = c .before .before .before .before .before .before .before .match .came in (
       omega (arith, c .before .before .before .before .before .before .before .before .before .before .loop-test .taken),
@@ -218,9 +218,9 @@ canonicalize-with-stabilizer-spec =
     enum-told-2
     add-fixing
     enum-told-3
-    slice-aggregate-take-lead
-    slice-aggregate-take-lead-2
-    take-lead-requires
+    slice-aggregate-take-less
+    slice-aggregate-take-less-2
+    take-less-requires
     slice-aggregate-advance
     advance-requires
     add-i

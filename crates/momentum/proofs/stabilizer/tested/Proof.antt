@@ -6,7 +6,7 @@ use native.Mathlib.Omega.{arith}
 use denote.Ref.{now}
 use borrow.Author.Needs.{needs}
 use Rattle.action.specs.Orbit.{fixes}
-use Rattle.elements.specs.Tables.{generatorsIn}
+use Rattle.elements.specs.HeldGroup.{generatorsIn}
 use Rattle.momentum.proofs.Traversals.{test-moves, test-fixes, test-breaks, bytes-fixed, bytes-moved}
 use Rattle.momentum.proofs.stabilizer.tested.Statement.{statement}
 use Rattle.momentum.proofs.stabilizer.tested.Tie as tie

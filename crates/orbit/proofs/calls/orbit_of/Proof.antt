@@ -6,7 +6,7 @@ use lib.ListN.{length}
 use denote.Ref.{now}
 use Rattle.outcome.specs.Outcome.{onAnswer, orElse, done}
 use Rattle.group.specs.Value.{generatorsOf}
-use Rattle.elements.specs.Tables.{Tables, encodeAll}
+use Rattle.elements.specs.HeldGroup.{Tables, encodeAll}
 use Rattle.group.proofs.Accepted.{accepted-tables}
 use Rattle.orbit.proofs.Outcomes.{orbit-length, orbit-answer}
 use borrow.Author.Needs.{needs}

@@ -8,7 +8,7 @@ use Rattle.outcome.specs.Outcome.{onAnswer, orElse, done}
 use Rattle.action.specs.Index.{digits}
 use Rattle.group.specs.Value.{generatorsOf}
 use Rattle.orbit.specs.Calls.{wordOf, shiftOf, noWord}
-use Rattle.elements.specs.Tables.{Tables}
+use Rattle.elements.specs.HeldGroup.{Tables}
 use Rattle.group.proofs.Accepted.{accepted-tables}
 use Rattle.orbit.proofs.Outcomes.{shift-length, shift-answer}
 use Rattle.group.proofs.Outcomes.{overwritten}

@@ -11,7 +11,7 @@ use mir.Val.{Fits}
 use Rattle.outcome.specs.Outcome.{orElse}
 use Rattle.pauli_word.specs.Bytes.{AcceptedWord}
 use Rattle.pauli_word.proofs.Planes.{bytes-of}
-use Rattle.elements.specs.Tables.{Tables}
+use Rattle.elements.specs.HeldGroup.{Tables}
 use Rattle.group.specs.Value.{generatorsOf}
 use Rattle.orbit.specs.Calls.{noWord, entryWord, afterEntry}
 use Rattle.orbit.proofs.Walking.{walk-group, walk-word}

@@ -7,7 +7,7 @@ use lib.ListN.{length, drop}
 use denote.Ref.{now}
 use Rattle.pauli_word.specs.Bytes.{planeBits}
 use Rattle.pauli_word.specs.Calls.{orderOfBits}
-use Rattle.pauli_word.proofs.Order.{byte-apart, byte-same, bytes-end}
+use Rattle.pauli_word.proofs.WordOrder.{byte-apart, byte-same, bytes-end}
 use Rattle.pauli_word.proofs.inner.compare_bytes.Statement.{statement}
 use Rattle.pauli_word.proofs.inner.compare_bytes.Tie as tie
 use Rattle.outcome.specs.Outcome.{given}

@@ -4,7 +4,7 @@ use mathlib.Core.Path.{_≡_, refl, sym, _∙_}
 use native.Mathlib.Omega.{arith}
 use Rattle.pauli_word.specs.Bytes.{lowBits}
 use Rattle.pauli_word.specs.Calls.{orderOfBits}
-use Rattle.pauli_word.proofs.Order.{digit-less, digit-greater, digit-same, digits-end}
+use Rattle.pauli_word.proofs.WordOrder.{digit-less, digit-greater, digit-same, digits-end}
 use Rattle.pauli_word.proofs.plane.compare_byte.Statement.{statement}
 use Rattle.pauli_word.proofs.plane.compare_byte.Tie as tie
 

@@ -8,7 +8,7 @@ use lib.ListN.{length}
 use denote.Ref.{now}
 use Rattle.action.specs.Permutation.{cycleLength}
 use Rattle.action.specs.Arithmetic.{lcm}
-use Rattle.action.proofs.Order.{cycle-positive}
+use Rattle.action.proofs.ExactOrders.{cycle-positive}
 use Rattle.pauli_word.specs.Limits.{maxSites}
 use Rattle.permutation.specs.Limits.{maxDeclared}
 use Rattle.permutation.proofs.Cycles.{Walked, cycle-short, walked-none, walked-past, walked-next, walked-overflow, walked-all}

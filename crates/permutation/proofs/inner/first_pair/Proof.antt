@@ -9,7 +9,7 @@ use denote.Ref.{now}
 use Rattle.outcome.specs.declared.Verdict.the-variants as Verdict
 use Rattle.outcome.specs.Outcome.{outcomeOfVerdict, alone}
 use Rattle.pauli_word.specs.Limits.{maxSites}
-use Rattle.permutation.proofs.Pairs.{pairsFrom, pairFrom, pairs-none, pairs-open, pair-none, pair-apart, pair-next, SameAt, rows-commute, rows-apart}
+use Rattle.permutation.proofs.Commuting.{pairsFrom, pairFrom, pairs-none, pairs-open, pair-none, pair-apart, pair-next, SameAt, rows-commute, rows-apart}
 use Rattle.permutation.proofs.inner.first_pair.Statement.{statement}
 use Rattle.permutation.proofs.inner.first_pair.Tie as tie
 

@@ -7,7 +7,7 @@ use native.Mathlib.Omega.{arith}
 use lib.ListN.{length, set, length-set}
 use denote.Ref.{now}
 use Rattle.action.specs.Permutation.{target, after, cycleLength}
-use Rattle.action.proofs.Order.{cycle-positive}
+use Rattle.action.proofs.ExactOrders.{cycle-positive}
 use Rattle.permutation.proofs.Cycles.{Marked, after-next, cycle-short, cycle-shared, walk-next, walk-end, marked-next}
 use Rattle.permutation.proofs.inner.mark_cycle.Statement.{statement}
 use Rattle.permutation.proofs.inner.mark_cycle.Tie as tie

@@ -6,7 +6,7 @@ use native.Mathlib.Omega.{arith}
 use denote.Ref.{now}
 use lib.ListN.{length, take, drop}
 use Rattle.pauli_word.proofs.Words.{rest-part}
-use Rattle.elements.specs.Tables.{Tables}
+use Rattle.elements.specs.HeldGroup.{Tables}
 use Rattle.group.specs.Value.{generatorsOf}
 use Rattle.group.proofs.Accepted.{accepted-tables}
 use Rattle.text.specs.Text.{lineEnd, before}

@@ -14,7 +14,7 @@ use Rattle.pauli_word.specs.declared.Ordering.the-variants.{Less, Same, Greater
 use Rattle.pauli_word.specs.Word.{Word, same, less}
 use Rattle.pauli_word.specs.Bytes.{planeBits, AcceptedWord, lettersIn, bytesOf}
 use Rattle.pauli_word.specs.Calls.{orderOfWords, orderOfBits}
-use Rattle.pauli_word.proofs.Order.{same-refl, same-eq, less-irrefl, less-total, order-words}
+use Rattle.pauli_word.proofs.WordOrder.{same-refl, same-eq, less-irrefl, less-total, order-words}
 use Rattle.pauli_word.proofs.Words.{decode-length, encode-decode, encoded-accepted, encoded-decode}
 use Rattle.action.specs.Lists.{from, below, Member}
 use Rattle.action.specs.Permutation.{Generator}
@@ -23,7 +23,7 @@ use Rattle.action.specs.Orbit.{reach, leastOf, least, firstAt, forward}
 use Rattle.action.proofs.Lists.{member-below, member-map, of-member-map}
 use Rattle.action.proofs.Reach.{reach-length, reach-zero}
 use Rattle.action.proofs.Canonical.{leastOf-member, leastOf-least}
-use Rattle.elements.specs.Tables.{generatorsIn, Tables}
+use Rattle.elements.specs.HeldGroup.{generatorsIn, Tables}
 use Rattle.elements.proofs.Orbits.{entries, entries-length, entries-next, entries-all}
 
 -- the least of w and the first i entries

@@ -14,7 +14,7 @@ use Rattle.action.specs.Permutation.{Generator, Permutes}
 use Rattle.action.proofs.Lists.{length-below}
 use Rattle.action.proofs.Index.{Positive, valid-positive}
 use Rattle.permutation.specs.Generators.{declared, rowAt, rowsOf}
-use Rattle.elements.specs.Tables.{generatorsIn, Tables}
+use Rattle.elements.specs.HeldGroup.{generatorsIn, Tables}
 
 -- generator g of tables
 abbrev pub generatorAt : ℕ → List ℕ → List ℕ → ℕ → Generator

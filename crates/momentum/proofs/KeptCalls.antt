@@ -32,12 +32,12 @@ use Rattle.orbit.specs.Calls.{wordCallChecks, withIndexOutcome}
 use Rattle.group.specs.Calls.{listLength}
 use Rattle.momentum.specs.Calls.{modeCount, kept, dropped, Row, decision, sectorOutcome}
 use Rattle.momentum.specs.Counts.{acceptedWords, isOwn, isKept, pairs}
-use Rattle.momentum.proofs.Pairs.{count-pairs, count-both, total-select, every-false}
+use Rattle.momentum.proofs.CountPairs.{count-pairs, count-both, total-select, every-false}
 use Rattle.momentum.proofs.Words.{sameNumbers-encode}
 use Rattle.momentum.proofs.Modes.{modes-length}
 use Rattle.momentum.proofs.Traversals.{keeps-broken}
 use Rattle.momentum.proofs.Outcomes.{sector-decision}
-use Rattle.momentum.proofs.Given.{given-accepted, given-valid, given-length, given-sites}
+use Rattle.momentum.proofs.GivenGroups.{given-accepted, given-valid, given-length, given-sites}
 use Rattle.orbit.proofs.WordCalls.{word-call-passes}
 
 -- ---- the orbit

@@ -6,11 +6,11 @@ use Rattle.pauli_word.specs.Limits.{maxSites}
 use Rattle.action.specs.Permutation.{Valid}
 use Rattle.action.specs.Index.{orderOf}
 use Rattle.permutation.specs.Limits.{maxOrder}
-use Rattle.elements.proofs.Tables.{generators-length}
+use Rattle.elements.proofs.TableRows.{generators-length}
 use Rattle.group.specs.declared.Group.{Group}
 use Rattle.group.specs.Value.{GivenBy, generatorsOf, AcceptedGroup}
 use Rattle.group.proofs.Accepted.{accepted-tables}
-use Rattle.group.proofs.Given.{made-accepted, held-valid}
+use Rattle.group.proofs.MadeGroups.{made-accepted, held-valid}
 
 module _ (g : Group) (given : GivenBy g) where
   pub given-accepted : AcceptedGroup g

@@ -1,13 +1,13 @@
--- `walk::take_lead` meets its contract: comparing the bytes says which word is less (`less-taken`, `less-left`).
+-- `walk::take_less` meets its contract: comparing the bytes says which word is less (`less-taken`, `less-left`).
 use mathlib.Core.Path.{sym, ap, _∙_}
 use mathlib.Core.Logic.{⊎-elim}
 use mathlib.Core.Bool.{Bool, cond}
 use native.Mathlib.Omega.{arith}
 use denote.Ref.{now}
 use borrow.Author.Needs.{needs}
-use Rattle.elements.proofs.Leads.{less-taken, less-left}
-use Rattle.elements.proofs.walk.take_lead.Statement.{statement}
-use Rattle.elements.proofs.walk.take_lead.Tie as tie
+use Rattle.elements.proofs.LeastSoFar.{less-taken, less-left}
+use Rattle.elements.proofs.walk.take_less.Statement.{statement}
+use Rattle.elements.proofs.walk.take_less.Tie as tie
 
 compare-bytes-requires : tie.Need-compare-bytes-requires
 compare-bytes-requires c κs = search needs
@@ -45,7 +45,7 @@ returns-2 c =
       c .before .before .copy .ensures ∙ sym (ap (λ (b : Bool). cond b (now (a .here)) (now (a .best))) takes),
     )
 
-pub take-lead-spec : {M : Type 1} → statement M
-take-lead-spec =
+pub take-less-spec : {M : Type 1} → statement M
+take-less-spec =
     tie.close
     (tie.spec compare-bytes-requires enum-told same-length returns copy-requires same-length-2 returns-2)

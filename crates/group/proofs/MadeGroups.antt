@@ -21,17 +21,17 @@ use Rattle.action.specs.Index.{orderOf}
 use Rattle.action.proofs.Lists.{of-member-append}
 use Rattle.permutation.specs.Limits.{maxGenerators, maxOrder, maxDeclared}
 use Rattle.permutation.specs.Generators.{permsOf, listEnd, permsCheck, ordersCheck, pairsCheck, orderOverflow, orderLimit, groupChecks, generatorChecks, declared, rowsOf, written}
-use Rattle.permutation.proofs.Pairs.{rows-length}
+use Rattle.permutation.proofs.Commuting.{rows-length}
 use Rattle.outcome.proofs.Outcomes.{verdict-fine, unless-answer}
 use Rattle.permutation.proofs.Rules.{of-member-at, perms-fine, orders-fine, checks-of-valid}
 use Rattle.generators.specs.Tables.{filled, placedAll}
 use Rattle.generators.specs.Parts.{anyZero, zeroSide, sidesLimit}
 use Rattle.generators.proofs.Groups.{hold-valid, hold-placed, same-count, placed-rows, placed-orders, placed-hold, placed-long, orders-long, written-ends, written-perms}
-use Rattle.elements.proofs.Tables.{generators-of}
+use Rattle.elements.proofs.TableRows.{generators-of}
 use Rattle.group.specs.declared.Group.{Group}
 use Rattle.group.specs.Value.{groupOf, tryFromOutcome, Fit, GivenBy, generatorsOf, isGroup, AcceptedGroup, GivenAs}
 use Rattle.group.specs.Calls.{latticeOutcome, axesOutcome}
-use Rattle.group.proofs.Lattices.{same-group}
+use Rattle.group.proofs.LatticeCalls.{same-group}
 use Rattle.group.proofs.Making.{tablesOf, group-tables}
 use Rattle.action.specs.Lattice.{shifts}
 use Rattle.action.specs.Arithmetic.{product}
