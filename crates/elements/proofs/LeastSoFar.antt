@@ -1,4 +1,4 @@
--- The least word so far: of the first i entries of the orbit list, and its first place among them. The next entry takes the lead exactly if it
+-- The least word so far: of the first i entries of the orbit list, and its first place among them. The next entry takes its place exactly if it
 -- is less, and then no entry before it is the same; otherwise the first place stays, since the list starts at the word itself.
 use Prim.Native.Nat.{ℕ, suc, _+_, _<_}
 use mathlib.Core.Path.{_≡_, refl, sym, ap, ap₂, _∙_}
@@ -27,8 +27,8 @@ use Rattle.elements.specs.HeldGroup.{generatorsIn, Tables}
 use Rattle.elements.proofs.Orbits.{entries, entries-length, entries-next, entries-all}
 
 -- the least of w and the first i entries
-abbrev pub lead : List Generator → Word → ℕ → Word
-lead gs w i = leastOf w (entries gs w i)
+abbrev pub leastSoFar : List Generator → Word → ℕ → Word
+leastSoFar gs w i = leastOf w (entries gs w i)
 
 leastOf-next : (v : Word) (ws : List Word) (u : Word) → leastOf v (ws ++ (u ∷ [])) ≡ cond (less u (leastOf v ws)) u (leastOf v ws)
 unfolding leastOf
@@ -62,26 +62,26 @@ unfolding firstAt
 firstAt-own v = rw same-refl
 
 -- the first entry is w
-place-first : (gs : List Generator) (w : Word) → firstAt (lead gs w 0) (entries gs w 0 ++ (reach gs 0 w ∷ [])) ≡ firstAt (lead gs w 0) (entries gs w 0)
+place-first : (gs : List Generator) (w : Word) → firstAt (leastSoFar gs w 0) (entries gs w 0 ++ (reach gs 0 w ∷ [])) ≡ firstAt (leastSoFar gs w 0) (entries gs w 0)
 unfolding below from leastOf firstAt
 place-first gs w = ap (λ (u : Word). firstAt w (u ∷ [])) (reach-zero gs w) ∙ firstAt-own w
 
 module _ (gs : List Generator) (w : Word) (i : ℕ) where
-  lead-next : lead gs w (i + 1) ≡ cond (less (reach gs i w) (lead gs w i)) (reach gs i w) (lead gs w i)
+  lead-next : leastSoFar gs w (i + 1) ≡ cond (less (reach gs i w) (leastSoFar gs w i)) (reach gs i w) (leastSoFar gs w i)
   lead-next = ap (leastOf w) (entries-next gs w i) ∙ leastOf-next w (entries gs w i) (reach gs i w)
 
   entries-long : (u : Word) → Member u (entries gs w i) → length u ≡ length w
   entries-long u m = let (j, k, e) = of-member-map (λ j. reach gs j w) (below i) u m in ap length e ∙ reach-length gs j w
 
-  lead-length : length (lead gs w i) ≡ length w
-  lead-length = ⊎-elim (λ e. ap length e) (entries-long (lead gs w i)) (leastOf-member w (entries gs w i))
+  lead-length : length (leastSoFar gs w i) ≡ length w
+  lead-length = ⊎-elim (λ e. ap length e) (entries-long (leastSoFar gs w i)) (leastOf-member w (entries gs w i))
 
-  -- an entry that is less than the lead is the lead, for the first time
-  module _ (h : less (reach gs i w) (lead gs w i) ≡ true) where
-    pub lead-taken : lead gs w (i + 1) ≡ reach gs i w
+  -- an entry that is less than it is the least, for the first time
+  module _ (h : less (reach gs i w) (leastSoFar gs w i) ≡ true) where
+    pub lead-taken : leastSoFar gs w (i + 1) ≡ reach gs i w
     lead-taken = rw (lead-next, h)
 
-    pub place-taken : firstAt (lead gs w (i + 1)) (entries gs w (i + 1)) ≡ i
+    pub place-taken : firstAt (leastSoFar gs w (i + 1)) (entries gs w (i + 1)) ≡ i
     place-taken =
         rw (lead-taken, entries-next gs w i)
         (firstAt-append (reach gs i w) (entries gs w i) (reach gs i w ∷ []) new
@@ -91,24 +91,24 @@ module _ (gs : List Generator) (w : Word) (i : ℕ) where
         new m = false≢true (sym (leastOf-least w (entries gs w i) refl entries-long (reach gs i w) (inr m)) ∙ h)
 
   -- otherwise both stay
-  module _ (h : less (reach gs i w) (lead gs w i) ≡ false) where
-    pub lead-kept : lead gs w (i + 1) ≡ lead gs w i
+  module _ (h : less (reach gs i w) (leastSoFar gs w i) ≡ false) where
+    pub lead-kept : leastSoFar gs w (i + 1) ≡ leastSoFar gs w i
     lead-kept = rw (lead-next, h)
 
-    pub place-kept : firstAt (lead gs w (i + 1)) (entries gs w (i + 1)) ≡ firstAt (lead gs w i) (entries gs w i)
+    pub place-kept : firstAt (leastSoFar gs w (i + 1)) (entries gs w (i + 1)) ≡ firstAt (leastSoFar gs w i) (entries gs w i)
     place-kept = rw (lead-kept, entries-next gs w i) (go (eq-zero-or-pos i))
       where
         -- the list starts at w
-        listed : 0 < i → Member (lead gs w i) (entries gs w i)
+        listed : 0 < i → Member (leastSoFar gs w i) (entries gs w i)
         listed k = self (leastOf-member w (entries gs w i))
           where
-            self : Member (lead gs w i) (w ∷ entries gs w i) → Member (lead gs w i) (entries gs w i)
+            self : Member (leastSoFar gs w i) (w ∷ entries gs w i) → Member (leastSoFar gs w i) (entries gs w i)
             self (inl e) = rw (e ∙ sym (reach-zero gs w)) (member-map (λ j. reach gs j w) (below i) 0 (member-below i 0 k))
             self (inr m) = m
 
-        go : (i ≡ 0) ⊎ (0 < i) → firstAt (lead gs w i) (entries gs w i ++ (reach gs i w ∷ [])) ≡ firstAt (lead gs w i) (entries gs w i)
+        go : (i ≡ 0) ⊎ (0 < i) → firstAt (leastSoFar gs w i) (entries gs w i ++ (reach gs i w ∷ [])) ≡ firstAt (leastSoFar gs w i) (entries gs w i)
         go (inl e) = rw e (place-first gs w)
-        go (inr k) = firstAt-member (lead gs w i) (entries gs w i) (reach gs i w ∷ []) (listed k)
+        go (inr k) = firstAt-member (leastSoFar gs w i) (entries gs w i) (reach gs i w ∷ []) (listed k)
 
 -- ---- what comparing the bytes of two words says
 
@@ -166,61 +166,61 @@ module _ {n : ℕ} {here best : List ℕ} (h : AcceptedWord n here) (b : Accepte
 -- the next entry takes the lead or leaves it
 module _ {k n : ℕ} {targets orders : List ℕ} (t : Tables k n targets orders) (w : Word) (long : length w ≡ n) (i : ℕ) {here best : List ℕ}
     (eh : here ≡ bytesOf (reach (generatorsIn k n targets orders) i w))
-    (eb : best ≡ bytesOf (lead (generatorsIn k n targets orders) w i)) where
-  lowest : length (lead (generatorsIn k n targets orders) w i) ≡ n
+    (eb : best ≡ bytesOf (leastSoFar (generatorsIn k n targets orders) w i)) where
+  lowest : length (leastSoFar (generatorsIn k n targets orders) w i) ≡ n
   lowest = lead-length (generatorsIn k n targets orders) w i ∙ long
 
   pub lead-accepted : AcceptedWord n best
-  lead-accepted = encoded-accepted planeLength (lead (generatorsIn k n targets orders) w i) lowest (t .sites) eb
+  lead-accepted = encoded-accepted planeLength (leastSoFar (generatorsIn k n targets orders) w i) lowest (t .sites) eb
 
   -- of the bytes, as of the words
   compared : less (lettersIn n here) (lettersIn n best)
-      ≡ less (reach (generatorsIn k n targets orders) i w) (lead (generatorsIn k n targets orders) w i)
+      ≡ less (reach (generatorsIn k n targets orders) i w) (leastSoFar (generatorsIn k n targets orders) w i)
   compared =
       let gs : List Generator = generatorsIn k n targets orders in
       ap₂ less (encoded-decode planeLength (reach gs i w) (reach-length gs i w ∙ long) (t .sites) eh)
-      (encoded-decode planeLength (lead gs w i) lowest (t .sites) eb)
+      (encoded-decode planeLength (leastSoFar gs w i) lowest (t .sites) eb)
 
   pub lead-bytes : {next : List ℕ} → next ≡ cond (less (lettersIn n here) (lettersIn n best)) here best
-      → next ≡ bytesOf (lead (generatorsIn k n targets orders) w (i + 1))
+      → next ≡ bytesOf (leastSoFar (generatorsIn k n targets orders) w (i + 1))
   lead-bytes {next} e = go (less (lettersIn n here) (lettersIn n best)) refl
     where
       gs : List Generator
       gs = generatorsIn k n targets orders
 
-      go : (b : Bool) → less (lettersIn n here) (lettersIn n best) ≡ b → next ≡ bytesOf (lead gs w (i + 1))
+      go : (b : Bool) → less (lettersIn n here) (lettersIn n best) ≡ b → next ≡ bytesOf (leastSoFar gs w (i + 1))
       go true h = e ∙ rw h (eh ∙ ap bytesOf (sym (lead-taken gs w i (sym compared ∙ h))))
       go false h = e ∙ rw h (eb ∙ ap bytesOf (sym (lead-kept gs w i (sym compared ∙ h))))
 
-  pub lead-place : {index next : ℕ} → index ≡ firstAt (lead (generatorsIn k n targets orders) w i) (entries (generatorsIn k n targets orders) w i)
+  pub lead-place : {index next : ℕ} → index ≡ firstAt (leastSoFar (generatorsIn k n targets orders) w i) (entries (generatorsIn k n targets orders) w i)
       → next ≡ cond (less (lettersIn n here) (lettersIn n best)) i index
-      → next ≡ firstAt (lead (generatorsIn k n targets orders) w (i + 1)) (entries (generatorsIn k n targets orders) w (i + 1))
+      → next ≡ firstAt (leastSoFar (generatorsIn k n targets orders) w (i + 1)) (entries (generatorsIn k n targets orders) w (i + 1))
   lead-place {index} {next} p e = go (less (lettersIn n here) (lettersIn n best)) refl
     where
       gs : List Generator
       gs = generatorsIn k n targets orders
 
       go : (b : Bool) → less (lettersIn n here) (lettersIn n best) ≡ b
-          → next ≡ firstAt (lead gs w (i + 1)) (entries gs w (i + 1))
+          → next ≡ firstAt (leastSoFar gs w (i + 1)) (entries gs w (i + 1))
       go true h = e ∙ rw h (sym (place-taken gs w i (sym compared ∙ h)))
       go false h = e ∙ rw h (p ∙ sym (place-kept gs w i (sym compared ∙ h)))
 
 -- ---- before the first entry, and after the last
 
 pub lead-start : {n : ℕ} {bytes : List ℕ} → AcceptedWord n bytes → (gs : List Generator)
-    → bytes ≡ bytesOf (lead gs (lettersIn n bytes) 0)
+    → bytes ≡ bytesOf (leastSoFar gs (lettersIn n bytes) 0)
 unfolding below from leastOf
 lead-start ok gs = sym (encode-decode ok)
 
-pub place-start : (gs : List Generator) (w : Word) → 0 ≡ firstAt (lead gs w 0) (entries gs w 0)
+pub place-start : (gs : List Generator) (w : Word) → 0 ≡ firstAt (leastSoFar gs w 0) (entries gs w 0)
 unfolding below from leastOf firstAt
 place-start gs w = refl
 
 module _ (gs : List Generator) (w : Word) (i : ℕ) (e : i ≡ orderOf gs) where
-  pub lead-end : lead gs w i ≡ least gs w
+  pub lead-end : leastSoFar gs w i ≡ least gs w
   unfolding least
   lead-end = ap (leastOf w) (ap (entries gs w) e ∙ entries-all gs w)
 
-  pub place-end : firstAt (lead gs w i) (entries gs w i) ≡ forward gs w
+  pub place-end : firstAt (leastSoFar gs w i) (entries gs w i) ≡ forward gs w
   unfolding forward
   place-end = ap₂ firstAt lead-end (ap (entries gs w) e ∙ entries-all gs w)

@@ -8,12 +8,12 @@ use Rattle.pauli_word.proofs.Words.{decode-length}
 use Rattle.action.specs.Orbit.{reach, firstAt}
 use Rattle.elements.specs.HeldGroup.{generatorsIn}
 use Rattle.elements.proofs.Orbits.{entries, walk-start, walk-accepted, walk-next}
-use Rattle.elements.proofs.LeastSoFar.{lead, lead-start, place-start, lead-accepted, lead-bytes, lead-place, lead-end, place-end}
+use Rattle.elements.proofs.LeastSoFar.{leastSoFar, lead-start, place-start, lead-accepted, lead-bytes, lead-place, lead-end, place-end}
 use Rattle.elements.proofs.walk.canonicalize_odometer.Statement.{statement}
 use Rattle.elements.proofs.walk.canonicalize_odometer.Tie as tie
 
 abbrev Inv-loop : tie.InvT-loop
-Inv-loop targets orders generators sites order word here₀ best₀ index₀ i₀ here best index i = (i ≤ order) × (here ≡ bytesOf (reach (generatorsIn generators sites targets orders) i (lettersIn sites word))) × (best ≡ bytesOf (lead (generatorsIn generators sites targets orders) (lettersIn sites word) i)) × (index ≡ firstAt (lead (generatorsIn generators sites targets orders) (lettersIn sites word) i) (entries (generatorsIn generators sites targets orders) (lettersIn sites word) i))
+Inv-loop targets orders generators sites order word here₀ best₀ index₀ i₀ here best index i = (i ≤ order) × (here ≡ bytesOf (reach (generatorsIn generators sites targets orders) i (lettersIn sites word))) × (best ≡ bytesOf (leastSoFar (generatorsIn generators sites targets orders) (lettersIn sites word) i)) × (index ≡ firstAt (leastSoFar (generatorsIn generators sites targets orders) (lettersIn sites word) i) (entries (generatorsIn generators sites targets orders) (lettersIn sites word) i))
 
 abbrev μ-loop : tie.MeasureT-loop
 μ-loop targets orders generators sites order word here₀ best₀ index₀ i₀ here best index i = order - i

@@ -12,7 +12,7 @@ use Rattle.action.specs.Index.{orderOf}
 use Rattle.action.specs.Orbit.{reach, firstAt}
 use Rattle.elements.specs.HeldGroup.{generatorsIn}
 use Rattle.elements.proofs.Orbits.{entries, walk-start, walk-accepted, walk-next}
-use Rattle.elements.proofs.LeastSoFar.{lead, lead-start, place-start, lead-accepted, lead-bytes, lead-place, lead-end, place-end}
+use Rattle.elements.proofs.LeastSoFar.{leastSoFar, lead-start, place-start, lead-accepted, lead-bytes, lead-place, lead-end, place-end}
 use Rattle.momentum.proofs.Traversals.{Passed, passed-start, passed-few, passed-moves, passed-fixes, placed-kept, word-kept, placed-broken, word-broken, fixing-some}
 use Rattle.momentum.proofs.stabilizer.canonicalize_with_stabilizer.Statement.{statement}
 use Rattle.momentum.proofs.stabilizer.canonicalize_with_stabilizer.Tie as tie
@@ -24,8 +24,8 @@ Inv-loop targets orders generators sites order modulus modes word here₀ best�
     let w = lettersIn sites word in
     (i ≤ order)
     × (here ≡ bytesOf (reach gs i w))
-    × (best ≡ bytesOf (lead gs w i))
-    × (index ≡ firstAt (lead gs w i) (entries gs w i))
+    × (best ≡ bytesOf (leastSoFar gs w i))
+    × (index ≡ firstAt (leastSoFar gs w i) (entries gs w i))
     × Passed gs modes w i fixing
 
 abbrev μ-loop : tie.MeasureT-loop
