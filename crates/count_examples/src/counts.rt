@@ -4,6 +4,8 @@ use lines::lists;
 use momentum::Sector;
 use pauli_word::Comparison;
 use pauli_word::Ordering;
+use pauli_word::PLANE_BYTES;
+use pauli_word::WORD_BYTES;
 ghost use Prim.Native.Nat.{_≤_};
 
 // The 16 words of a ring of 2.
@@ -85,14 +87,14 @@ fn counted(g: Group, n: usize, i: usize, modes: &[i32]) -> bool {
 }
 
 // Word i of 2 or 4 sites: the low bits of i are its X plane, the next its Z plane.
-fn word_at(n: usize, i: usize) -> [u8; 64] {
-    let mut word = [0u8; 64];
+fn word_at(n: usize, i: usize) -> [u8; WORD_BYTES] {
+    let mut word = [0u8; WORD_BYTES];
     if n == 2 {
         word[0] = (i % 4) as u8;
-        word[32] = (i / 4 % 4) as u8;
+        word[PLANE_BYTES] = (i / 4 % 4) as u8;
     } else {
         word[0] = (i % 16) as u8;
-        word[32] = (i / 16 % 16) as u8;
+        word[PLANE_BYTES] = (i / 16 % 16) as u8;
     }
     word
 }

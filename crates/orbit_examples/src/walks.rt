@@ -4,6 +4,7 @@ use lines::answers;
 use lines::lists;
 use orbit::Step;
 use orbit::Walk;
+use pauli_word::WORD_BYTES;
 use samples::cycles;
 use samples::cycles::Cycles;
 
@@ -12,16 +13,16 @@ pub fn rings() {
     let ring4 = samples::ring4();
     let word = pauli_word::from_text(b"XIII").word;
     steps(4, orbit::orbit(ring4, 4, &word).walk, 6);
-    listed(ring4, 4, &word, &mut [0u8; 256]);
+    listed(ring4, 4, &word, &mut [0u8; 4 * WORD_BYTES]);
     steps(4, orbit::orbit(ring4, 5, &word).walk, 1);
 }
 
 // One letter on lattices with sides that differ.
 pub fn unequal() {
     lines::text(b"ladder 3 2, ");
-    letter(group::ladder(3, 2).group, b"IIIIXI", &mut [0u8; 192]);
+    letter(group::ladder(3, 2).group, b"IIIIXI", &mut [0u8; 3 * WORD_BYTES]);
     lines::text(b"ladder 2 3, ");
-    letter(group::ladder(2, 3).group, b"IIIIXI", &mut [0u8; 128]);
+    letter(group::ladder(2, 3).group, b"IIIIXI", &mut [0u8; 2 * WORD_BYTES]);
     let torus = group::torus_3d(2, 3, 4).group;
     let word = pauli_word::from_text(b"IIIIIIIIIZIIIIIIIIIIIIII").word;
     steps(24, orbit::orbit(torus, 24, &word).walk, 25);
@@ -49,7 +50,7 @@ pub fn last_entry() {
     steps(32, walk_at(four, word, 1048577), 1);
 }
 
-fn walk_at(group: Group, word: [u8; 64], index: usize) -> Walk {
+fn walk_at(group: Group, word: [u8; WORD_BYTES], index: usize) -> Walk {
     Walk { group, word, index }
 }
 

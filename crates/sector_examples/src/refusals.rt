@@ -1,6 +1,7 @@
 // Values, words and lists that are refused, alone and two at once. After each refusal the lent list is looked at.
 use crate::sectors;
 use group::Group;
+use pauli_word::WORD_BYTES;
 
 // Values and words: 1, 14, 15, 16, 17.
 pub fn words() {
@@ -32,16 +33,16 @@ pub fn two_of_words() {
 }
 
 fn zeros(name: &[u8], g: Group, n: usize) {
-    sector(name, g, n, &[0u8; 64], &[0], &mut [9]);
+    sector(name, g, n, &[0u8; WORD_BYTES], &[0], &mut [9]);
 }
 
 fn short(name: &[u8], g: Group, n: usize) {
-    sector(name, g, n, &[0u8; 63], &[0], &mut [9]);
+    sector(name, g, n, &[0u8; WORD_BYTES - 1], &[0], &mut [9]);
 }
 
 // A word with a bit at site 4, on the ring.
 fn high(name: &[u8], n: usize, modes: &[i32], counter: &mut [u32]) {
-    let mut word = [0u8; 64];
+    let mut word = [0u8; WORD_BYTES];
     word[0] = 16;
     sector(name, samples::ring4(), n, &word, modes, counter);
 }
@@ -76,7 +77,7 @@ pub fn two_of_lists() {
 }
 
 fn list(name: &[u8], modes: &[i32], counter: &mut [u32]) {
-    sector(name, samples::ring4(), 4, &[0u8; 64], modes, counter);
+    sector(name, samples::ring4(), 4, &[0u8; WORD_BYTES], modes, counter);
 }
 
 // The group that stands beside a refusal.

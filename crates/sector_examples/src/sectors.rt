@@ -5,6 +5,7 @@ use lines::answers;
 use lines::lists;
 use momentum::InSector;
 use momentum::Sector;
+use pauli_word::WORD_BYTES;
 
 // Rings of 4 and of 2 sites.
 pub fn chains() {
@@ -131,7 +132,7 @@ fn spell(n: usize, word: &[u8]) {
 
 // Whether the word beside an answer is zeros.
 fn zeros_after(word: &[u8]) {
-    if check::same(word, &[0u8; 64]) {
+    if check::same(word, &[0u8; WORD_BYTES]) {
         lines::text(b", the word zeros\n");
     } else {
         lines::text(b", the word not zeros\n");
