@@ -20,9 +20,17 @@ pub fn rings() {
 // One letter on lattices with sides that differ.
 pub fn unequal() {
     lines::text(b"ladder 3 2, ");
-    letter(group::ladder(3, 2).group, b"IIIIXI", &mut [0u8; 3 * WORD_BYTES]);
+    letter(
+        group::ladder(3, 2).group,
+        b"IIIIXI",
+        &mut [0u8; 3 * WORD_BYTES],
+    );
     lines::text(b"ladder 2 3, ");
-    letter(group::ladder(2, 3).group, b"IIIIXI", &mut [0u8; 2 * WORD_BYTES]);
+    letter(
+        group::ladder(2, 3).group,
+        b"IIIIXI",
+        &mut [0u8; 2 * WORD_BYTES],
+    );
     let torus = group::torus_3d(2, 3, 4).group;
     let word = pauli_word::from_text(b"IIIIIIIIIZIIIIIIIIIIIIII").word;
     steps(24, orbit::orbit(torus, 24, &word).walk, 25);

@@ -77,7 +77,14 @@ pub fn two_of_lists() {
 }
 
 fn list(name: &[u8], modes: &[i32], counter: &mut [u32]) {
-    sector(name, samples::ring4(), 4, &[0u8; WORD_BYTES], modes, counter);
+    sector(
+        name,
+        samples::ring4(),
+        4,
+        &[0u8; WORD_BYTES],
+        modes,
+        counter,
+    );
 }
 
 // The group that stands beside a refusal.
