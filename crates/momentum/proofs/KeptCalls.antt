@@ -32,6 +32,7 @@ use Rattle.orbit.specs.Calls.{wordCallChecks, withIndexOutcome}
 use Rattle.group.specs.Calls.{listLength}
 use Rattle.momentum.specs.Calls.{modeCount, kept, dropped, Row, decision, sectorOutcome}
 use Rattle.momentum.specs.Counts.{acceptedWords, isOwn, isKept, pairs}
+use Rattle.momentum.proofs.Decided.{kept-by, decides, decided-pairs, decided-lists}
 use Rattle.momentum.proofs.CountPairs.{count-pairs, count-both, total-select, every-false}
 use Rattle.momentum.proofs.Words.{sameNumbers-encode}
 use Rattle.momentum.proofs.Modes.{modes-length}
@@ -51,10 +52,6 @@ orbit-all gs w u = (
 -- ---- the decision
 
 -- by whether the modes keep the word
-kept-by : (b : Bool) (r : Row) → isKept (answer (cond b (kept r) dropped)) ≡ b
-kept-by true r = refl
-kept-by false r = refl
-
 dropped-by : (b : Bool) (r : Row) → answer (cond b (kept r) dropped) ≡ answer dropped → b ≡ false
 dropped-by true r e = ap isKept e
 dropped-by false r e = refl
@@ -143,15 +140,15 @@ module _ (g : Group) where
     -- ---- counts, with a place of the counter for each generator
 
     module _ (k : ℕ) (room : k ≡ g .generators) where
-      count-keeps : (bytes : List ℕ) → AcceptedWord n bytes
-          → count (λ ks. isKept (sectorOutcome g n bytes ks k)) (allModes gs) ≡ keptLists (keeps gs) gs (lettersIn n bytes)
+      count-decides : (bytes : List ℕ) → AcceptedWord n bytes
+          → count (λ ks. isKept (sectorOutcome g n bytes ks k)) (allModes gs) ≡ keptLists (decides gs) gs (lettersIn n bytes)
       unfolding keptLists
-      count-keeps bytes word =
-          count-cong _ _ (allModes gs) (λ ks m. kept-keeps bytes word ks (modes-length gs ks m ∙ given-length g given) k room)
+      count-decides bytes word =
+          count-cong _ _ (allModes gs) (λ ks m. ap isKept (sector-answer bytes word ks (modes-length gs ks m ∙ given-length g given) k room))
 
       pub kept-lists : (bytes : List ℕ) → AcceptedWord n bytes
           → count (λ ks. isKept (sectorOutcome g n bytes ks k)) (allModes gs) ≡ length (orbit gs (lettersIn n bytes))
-      kept-lists bytes word = count-keeps bytes word ∙ Action.keeps-lists valid (lettersIn n bytes) (decode-length word)
+      kept-lists bytes word = count-decides bytes word ∙ decided-lists valid (lettersIn n bytes) (decode-length word)
 
       -- whether the calls answer that bytes are their own least word, and that the modes keep it
       abbrev keptOwn : List ℤ → List ℕ → Bool
@@ -174,18 +171,18 @@ module _ (g : Group) where
             ap (isOwn coded) (index-answer coded word)
             ∙ rw decoded (sameNumbers-encode planeLength n (given-sites g given) (least gs v) v (least-length valid v ∙ letters) letters)
 
-        count-own : count (λ ks. keptOwn ks coded) (allModes gs) ≡ cond (isRepresentative gs v) (keptLists (keeps gs) gs v) 0
+        count-own : count (λ ks. keptOwn ks coded) (allModes gs) ≡ cond (isRepresentative gs v) (keptLists (decides gs) gs v) 0
         count-own =
             count-both (isOwn coded (withIndexOutcome g n coded)) _ (allModes gs)
-            ∙ ap₂ (λ (b : Bool) (x : ℕ). cond b x 0) own (count-keeps coded word ∙ ap (keptLists (keeps gs) gs) decoded)
+            ∙ ap₂ (λ (b : Bool) (x : ℕ). cond b x 0) own (count-decides coded word ∙ ap (keptLists (decides gs) gs) decoded)
 
-      pairs-by-words : count (λ p. keptOwn (p .0) (p .1)) (pairs (allModes gs) (acceptedWords n)) ≡ keptPairs (keeps gs) gs n
+      pairs-by-words : count (λ p. keptOwn (p .0) (p .1)) (pairs (allModes gs) (acceptedWords n)) ≡ keptPairs (decides gs) gs n
       unfolding acceptedWords keptPairs representatives
       pairs-by-words =
           count-pairs (λ p. keptOwn (p .0) (p .1)) (allModes gs) (acceptedWords n)
           ∙ total-map (λ bytes. count (λ ks. keptOwn ks bytes) (allModes gs)) bytesOf (allWords n)
           ∙ total-cong _ _ (allWords n) (λ v m. count-own v (words-long n v m))
-          ∙ sym (total-select (keptLists (keeps gs) gs) (isRepresentative gs) (allWords n))
+          ∙ sym (total-select (keptLists (decides gs) gs) (isRepresentative gs) (allWords n))
 
       pub kept-pairs : count (λ p. keptOwn (p .0) (p .1)) (pairs (allModes gs) (acceptedWords n)) ≡ 4 ^ n
-      kept-pairs = pairs-by-words ∙ Action.keeps-pairs valid
+      kept-pairs = pairs-by-words ∙ decided-pairs valid
