@@ -4,33 +4,7 @@ use Prim.Native.Nat.{ℕ, zero, suc, _*_, _/_, _%_, _≤_, _<_, _∣_}
 use mathlib.Core.Path.{_≡_, refl}
 use mathlib.Core.Logic.{_⊎_, inl, inr}
 use mathlib.Core.List.{List, [], _∷_}
-use native.Mathlib.Nat.{
-  dvd-refl,
-  dvd-zero,
-  dvd-trans,
-  dvd-mul-left,
-  dvd-mul-right,
-  dvd-mod-iff,
-  dvd-antisymm,
-  dvd-of-mul-dvd-mul-left,
-  dvd-of-mul-dvd-mul-right,
-  eq-zero-of-zero-dvd,
-  eq-zero-or-pos,
-  le-of-dvd,
-  mod-lt,
-  mul-dvd-mul-left,
-  mul-dvd-mul-right,
-  mul-div-cancel',
-  div-mul-cancel,
-  mul-assoc,
-  mul-comm,
-  mul-right-comm,
-  mul-pos,
-  one-dvd,
-  pos-of-dvd-of-pos,
-  zero-lt-suc,
-  zero-mul,
-}
+use native.Mathlib.Nat.{dvd-refl, dvd-zero, dvd-trans, dvd-mul-left, dvd-mul-right, dvd-mod-iff, dvd-antisymm, dvd-of-mul-dvd-mul-left, dvd-of-mul-dvd-mul-right, eq-zero-of-zero-dvd, eq-zero-or-pos, mod-lt, mul-dvd-mul-left, mul-dvd-mul-right, mul-div-cancel', div-mul-cancel, mul-assoc, mul-comm, mul-right-comm, mul-pos, one-dvd, pos-of-dvd-of-pos, zero-lt-suc, zero-mul}
 use native.Mathlib.Omega.{arith}
 use Rattle.action.specs.Arithmetic.{gcdFuel, gcd, lcm, lcmAll}
 use Rattle.action.specs.Lists.{Member}
@@ -123,9 +97,6 @@ lcm-divides a b m p q = go (eq-zero-or-pos (gcd a b))
 
 pub lcm-positive : {a b : ℕ} → 0 < a → 0 < b → 0 < lcm a b
 lcm-positive {a} {b} p q = pos-of-dvd-of-pos (lcm-divides a b (a * b) (dvd-mul-right a b) (dvd-mul-left b a)) (mul-pos p q)
-
-pub lcm-least : (a b m : ℕ) → 0 < m → a ∣ m → b ∣ m → lcm a b ≤ m
-lcm-least a b m h p q = le-of-dvd h (lcm-divides a b m p q)
 
 pub lcmAll-member : (a : ℕ) (xs : List ℕ) → Member a xs → a ∣ lcmAll xs
 unfolding lcmAll

@@ -6,8 +6,7 @@ use mathlib.Core.Path.{_≡_, refl, sym, _∙_, ap, subst}
 use mathlib.Core.Logic.{_⊎_, inl, inr, ⊎-elim}
 use mathlib.Core.Bool.{Bool, true, false, cond, _||_, or-true, false≢true}
 use mathlib.Core.List.{List, [], _∷_, map}
-use native.Mathlib.Nat.{add-suc, suc-add, zero-add, le-of-suc-le-suc, zero-lt-suc}
-use native.Mathlib.Nat.{add-zero as sum-zero}
+use native.Mathlib.Nat.{add-suc, suc-add, zero-add, le-of-suc-le-suc, zero-lt-suc, add-zero as sum-zero}
 use native.Mathlib.Omega.{arith}
 use lib.ListN.{length}
 use Rattle.pauli_word.specs.Word.{Word, same, less}
@@ -200,9 +199,6 @@ unfolding forward orbitList below
 forward-first gs w i h k = firstAt-first (least gs w) (λ i. reach gs i w) (orderOf gs) 0 i h (rw zero-add k)
 
 module _ {n : ℕ} {gs : List Generator} (v : Valid n gs) (w : Word) where
-  pub orbit-self : isIn w (orbit gs w) ≡ true
-  orbit-self = subst (λ (u : Word). isIn u (orbit gs w) ≡ true) (reach-zero gs w) (orbit-intro gs w 0 (order-of-positive gs (valid-positive v)))
-
   -- the list starts at w itself, by index 0
   least-listed : Member (least gs w) (orbitList gs w)
   unfolding least

@@ -1,4 +1,4 @@
--- What is proved of the definitions, to be read without the proofs: each statement is followed by the law that shows it.
+-- What is proved of the definitions: each statement is followed by the law that shows it.
 --
 -- 1 Words, 2 Permutations, 3 Indices, 4 Canonical, 5 Stabilizer, 6 Characters, 7 Kept lists, 8 Pairs, 9 Lattices. From 3 to 8, gs are valid
 -- generators of n sites (`Valid n gs`: each permutes the sites, every two commute, and each order is exact), and n and the number of generators

@@ -1,4 +1,4 @@
--- Demand 3 at the calls, to be read without the proofs: each statement is followed by the law that shows it.
+-- Demand 3 at the calls: each statement is followed by the law that shows it.
 --
 -- The hypotheses, then the first, the second and the third sentence, then what supports them: 1 What is listed, 2 The decision, 3 Modes of either
 -- sign, 4 Numerators, 5 Pairs. The statements are about the definitions of `specs/` of this crate, of group and of action: `withIndexOutcome` is what

@@ -3,6 +3,7 @@
 //
 // No call here asks anything of its caller: bad input is refused by number, lent lists are then as they were, and what comes back beside
 // a refusal passes for nothing.
+mod calls;
 pub mod inner;
 mod phase;
 mod stabilizer;
@@ -41,7 +42,7 @@ pub fn character_numerator(group: Group, modes: &[i32], counter: &[u32]) -> Numb
 {
     match group::inner::value_checked(group) {
         Verdict::Refused(why) => Number::Refused(why),
-        Verdict::Accepted => inner::numerator_of(group, modes, counter),
+        Verdict::Accepted => calls::numerator_of(group, modes, counter),
     }
 }
 
@@ -52,7 +53,7 @@ pub fn character_table(group: Group, modes: &[i32], list: &mut [usize]) -> Verdi
 {
     match group::inner::value_checked(group) {
         Verdict::Refused(why) => Verdict::Refused(why),
-        Verdict::Accepted => inner::table_of(group, modes, list),
+        Verdict::Accepted => calls::table_of(group, modes, list),
     }
 }
 
@@ -71,7 +72,7 @@ pub fn canonicalize_in_sector(
     ensures counter { λ _. ⌜ now (counter .exit) ≡ orElse (rowCounter (generatorsOf group) (now (counter .entry))) (now (counter .entry)) (sectorOutcome group n (now (word .entry)) (now (modes .entry)) (length (now (counter .entry)))) ⌝ }
 {
     match orbit::inner::word_call_checked(group, n, word) {
-        Verdict::Refused(why) => inner::no_row(Sector::Refused(why)),
-        Verdict::Accepted => inner::sector_of(group, word, modes, counter),
+        Verdict::Refused(why) => calls::no_row(Sector::Refused(why)),
+        Verdict::Accepted => calls::sector_of(group, word, modes, counter),
     }
 }

@@ -224,10 +224,6 @@ module _ {m n : ℕ} {bytes : List ℕ} (ok : Accepted m n bytes) where
       (ap (planeOf m) decode-zBits ∙ planeOf-take m n (drop m bytes) zLong (bytes-drop m bytes (ok .small)) (ok .zClear))
       ∙ take-append-drop m bytes
 
--- two accepted words with the same letters have the same bytes
-pub decode-injective : {m n : ℕ} {a b : List ℕ} → Accepted m n a → Accepted m n b → decode m n a ≡ decode m n b → a ≡ b
-decode-injective {m} oka okb e = sym (encode-decode oka) ∙ ap (encode m) e ∙ encode-decode okb
-
 -- ---- one site more
 
 bytes-left : (p r : List ℕ) → Bytes (p ++ r) → Bytes p

@@ -1,20 +1,15 @@
-// For the crates above and for the calls of this one: whoever calls a function here owes its `requires`.
+// What the crates above need of words: their checks, their bits, and how bytes compare. Whoever calls a function here owes its `requires`.
 ghost use mathlib.Core.Path.{_≡_};
 ghost use mathlib.Core.Bool.{false};
-ghost use Prim.Native.Nat.{_-_};
-ghost use mathlib.Core.List.{_++_};
-ghost use lib.ListN.{length, getD, take, drop, replicate};
-ghost use Rattle.pauli_word.specs.Limits.{maxSites, planeLength, wordLength};
+ghost use lib.ListN.{length, getD, take, drop};
+ghost use Rattle.pauli_word.specs.Limits.{planeLength, wordLength};
 ghost use Rattle.outcome.specs.Outcome.{verdict, outcomeOfVerdict};
-ghost use Rattle.pauli_word.specs.Word.{weight};
-ghost use Rattle.pauli_word.specs.Bytes.{planeBits, withSite, AcceptedWord, lettersIn};
-ghost use Rattle.pauli_word.specs.Text.{spell};
-ghost use Rattle.pauli_word.specs.Calls.{wordChecks, compareChecks, orderOfBits};
+ghost use Rattle.pauli_word.specs.Bytes.{planeBits, withSite};
+ghost use Rattle.pauli_word.specs.Calls.{wordChecks, orderOfBits};
 use crate::MAX_SITES;
 use crate::Ordering;
 use crate::PLANE_BYTES;
 use crate::WORD_BYTES;
-use crate::letter;
 use crate::plane;
 use outcome::Refusal;
 use outcome::Verdict;
@@ -41,25 +36,6 @@ pub fn checked(n: usize, word: &[u8]) -> Verdict
         }
     }
     Verdict::Refused(Refusal::BitAboveSites)
-}
-
-// The checks of two words of n sites: 1, 15 of either, 17 of either.
-pub fn both_checked(n: usize, a: &[u8], b: &[u8]) -> Verdict
-    ensures { λ r. ⌜ outcomeOfVerdict r ≡ verdict (compareChecks n (now (a .entry)) (now (b .entry))) ⌝ }
-{
-    if MAX_SITES < n {
-        return Verdict::Refused(Refusal::TooManySites);
-    }
-    if a.len() != WORD_BYTES {
-        return Verdict::Refused(Refusal::WordLength);
-    }
-    if b.len() != WORD_BYTES {
-        return Verdict::Refused(Refusal::WordLength);
-    }
-    if let Verdict::Refused(why) = checked(n, a) {
-        return Verdict::Refused(why);
-    }
-    checked(n, b)
 }
 
 // How the bits of bytes a stand to those of bytes b, up to where the shorter ends.
@@ -97,34 +73,4 @@ pub fn put_site(word: &mut [u8], q: usize, x: bool, z: bool)
 {
     plane::or_bit(&mut word[..PLANE_BYTES], q, x);
     plane::or_bit(&mut word[PLANE_BYTES..], q, z);
-}
-
-// The text of an accepted word, and zeros after it.
-pub fn spelled(n: usize, word: &[u8]) -> [u8; MAX_SITES]
-    requires { ⌜ AcceptedWord n (now word) ⌝ }
-    ensures { λ r. ⌜ r ≡ spell (lettersIn n (now (word .entry))) ++ replicate (maxSites - n) 0 ⌝ }
-{
-    let mut text = [0u8; MAX_SITES];
-    let mut q = 0;
-    while q < n {
-        let s = site_at(word, q);
-        text[q] = letter::spelled(s.x, s.z);
-        q += 1;
-    }
-    text
-}
-
-// The weight of an accepted word.
-pub fn weighed(n: usize, word: &[u8]) -> usize
-    requires { ⌜ AcceptedWord n (now word) ⌝ }
-    ensures { λ r. ⌜ r ≡ weight (lettersIn n (now (word .entry))) ⌝ }
-{
-    let mut sum: usize = 0;
-    let mut q = 0;
-    while q < n {
-        let s = site_at(word, q);
-        sum += letter::weighed(s.x, s.z);
-        q += 1;
-    }
-    sum
 }

@@ -2,6 +2,7 @@
 // the Z plane; site q is bit q mod 8 of a plane's byte q div 8. Letters by (X bit, Z bit): I 00, Z 01, X 10, Y 11.
 //
 // No call here asks anything of its caller: bad input is refused by number, and nothing else is answered with it.
+mod calls;
 pub mod inner;
 mod letter;
 mod plane;
@@ -92,7 +93,7 @@ pub fn to_text(n: usize, word: &[u8]) -> WordText
         },
         Verdict::Accepted => WordText {
             answer: Number::Value(n),
-            text: inner::spelled(n, word),
+            text: calls::spelled(n, word),
         },
     }
 }
@@ -103,7 +104,7 @@ pub fn weight(n: usize, word: &[u8]) -> Number
 {
     match inner::checked(n, word) {
         Verdict::Refused(why) => Number::Refused(why),
-        Verdict::Accepted => Number::Value(inner::weighed(n, word)),
+        Verdict::Accepted => Number::Value(calls::weighed(n, word)),
     }
 }
 
@@ -112,7 +113,7 @@ pub fn weight(n: usize, word: &[u8]) -> Number
 pub fn compare(n: usize, a: &[u8], b: &[u8]) -> Comparison
     ensures answer { λ r. ⌜ outcomeOfComparison r ≡ compareOutcome n (now (a .entry)) (now (b .entry)) ⌝ }
 {
-    match inner::both_checked(n, a, b) {
+    match calls::both_checked(n, a, b) {
         Verdict::Refused(why) => Comparison::Refused(why),
         Verdict::Accepted => Comparison::Order(inner::compare_bytes(a, b)),
     }

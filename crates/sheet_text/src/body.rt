@@ -52,7 +52,7 @@ pub fn fill_rows(group: Group, used: usize, text: &[u8], list: &mut [u8], start:
     let mut place = start;
     while at < text.len() {
         let end = at + text::read::find(&text[at..], 10);
-        place = sheet_rows::write_row(group, used, &text[at..end], list, place);
+        place = sheet_rows::row::write_row(group, used, &text[at..end], list, place);
         at = end + 1;
     }
     place

@@ -94,6 +94,6 @@ fn refused_line(list: &mut [u8], why: Refusal, line: usize) -> Written
 {
     Written {
         answer: LineVerdict::Refused(why, line),
-        length: sheet_rows::refusal_line(list, why, line),
+        length: sheet_rows::row::refusal_line(list, why, line),
     }
 }

@@ -1,4 +1,4 @@
--- The definitions are what their names say, to be read without the proofs. The pieces of a text, with the byte between them, are the text, and no
+-- The definitions are what their names say: statements, with what shows them. The pieces of a text, with the byte between them, are the text, and no
 -- piece has the byte; the fields are pieces; a number in decimal is read as that number, and its text is the only one that is; so is a mode's; a
 -- text that is put into a list stands there, and the rest stays. What such laws leave open, as the base of the numbers, examples settle.
 use Prim.Native.Nat.{ℕ, suc, _+_, _-_, _^_, _≤_, _<_}

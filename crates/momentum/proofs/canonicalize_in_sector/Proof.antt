@@ -1,4 +1,4 @@
--- `canonicalize_in_sector` meets its contract: the checks pass or refuse, and a word that passes has the group's sites, as `inner::sector_of` asks.
+-- `canonicalize_in_sector` meets its contract: the checks pass or refuse, and a word that passes has the group's sites, as `calls::sector_of` asks.
 use Prim.Native.Nat.{ℕ}
 use mathlib.Core.Path.{sym, ap, _∙_}
 use lib.ListN.{length}

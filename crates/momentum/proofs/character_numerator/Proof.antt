@@ -1,4 +1,4 @@
--- `character_numerator` meets its contract: the checks pass or refuse, and an accepted group is what `inner::numerator_of` asks.
+-- `character_numerator` meets its contract: the checks pass or refuse, and an accepted group is what `calls::numerator_of` asks.
 use mathlib.Core.Path.{sym, ap, _∙_}
 use mathlib.Core.List.{[], _∷_, _++_}
 use denote.Ref.{now}

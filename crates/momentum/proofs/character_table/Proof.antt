@@ -1,4 +1,4 @@
--- `character_table` meets its contract: the checks pass or refuse, and an accepted group is what `inner::table_of` asks.
+-- `character_table` meets its contract: the checks pass or refuse, and an accepted group is what `calls::table_of` asks.
 use mathlib.Core.Path.{sym, ap, _∙_}
 use mathlib.Core.List.{[], _∷_, _++_}
 use lib.ListN.{length}

@@ -1,0 +1,66 @@
+// What the calls come to once their checks have passed, and the checks of two words. Whoever calls a function here owes its `requires`.
+ghost use mathlib.Core.Path.{_≡_};
+ghost use Prim.Native.Nat.{_-_};
+ghost use mathlib.Core.List.{_++_};
+ghost use lib.ListN.{replicate};
+ghost use Rattle.pauli_word.specs.Limits.{maxSites};
+ghost use Rattle.outcome.specs.Outcome.{verdict, outcomeOfVerdict};
+ghost use Rattle.pauli_word.specs.Word.{weight};
+ghost use Rattle.pauli_word.specs.Bytes.{AcceptedWord, lettersIn};
+ghost use Rattle.pauli_word.specs.Text.{spell};
+ghost use Rattle.pauli_word.specs.Calls.{compareChecks};
+use crate::MAX_SITES;
+use crate::WORD_BYTES;
+use crate::inner;
+use crate::letter;
+use outcome::Refusal;
+use outcome::Verdict;
+
+// The checks of two words of n sites: 1, 15 of either, 17 of either.
+pub fn both_checked(n: usize, a: &[u8], b: &[u8]) -> Verdict
+    ensures { λ r. ⌜ outcomeOfVerdict r ≡ verdict (compareChecks n (now (a .entry)) (now (b .entry))) ⌝ }
+{
+    if MAX_SITES < n {
+        return Verdict::Refused(Refusal::TooManySites);
+    }
+    if a.len() != WORD_BYTES {
+        return Verdict::Refused(Refusal::WordLength);
+    }
+    if b.len() != WORD_BYTES {
+        return Verdict::Refused(Refusal::WordLength);
+    }
+    if let Verdict::Refused(why) = inner::checked(n, a) {
+        return Verdict::Refused(why);
+    }
+    inner::checked(n, b)
+}
+
+// The text of an accepted word, and zeros after it.
+pub fn spelled(n: usize, word: &[u8]) -> [u8; MAX_SITES]
+    requires { ⌜ AcceptedWord n (now word) ⌝ }
+    ensures { λ r. ⌜ r ≡ spell (lettersIn n (now (word .entry))) ++ replicate (maxSites - n) 0 ⌝ }
+{
+    let mut text = [0u8; MAX_SITES];
+    let mut q = 0;
+    while q < n {
+        let s = inner::site_at(word, q);
+        text[q] = letter::spelled(s.x, s.z);
+        q += 1;
+    }
+    text
+}
+
+// The weight of an accepted word.
+pub fn weighed(n: usize, word: &[u8]) -> usize
+    requires { ⌜ AcceptedWord n (now word) ⌝ }
+    ensures { λ r. ⌜ r ≡ weight (lettersIn n (now (word .entry))) ⌝ }
+{
+    let mut sum: usize = 0;
+    let mut q = 0;
+    while q < n {
+        let s = inner::site_at(word, q);
+        sum += letter::weighed(s.x, s.z);
+        q += 1;
+    }
+    sum
+}
