@@ -19,7 +19,7 @@ use sheet_lines::LineVerdict;
 pub const MAX_SHEET: usize = 65536;
 
 // A list of this length suffices for what any sheet of at most 65,536 bytes prints.
-pub const MAX_TABLE: usize = 262208;
+pub const MAX_TABLE: usize = 4 * MAX_SHEET + 64;
 
 // What printing a sheet comes to.
 pub enum Printed {
