@@ -401,9 +401,9 @@ module _ (sites : ℕ) (word : List ℕ) where
   word-refused why e k = go (ltb maxSites (length word)) (lettersAlone word) e
     where
       go : (l t : Bool) → refusalOf why ≡ onAnswer length (readAs l t) → refusedAt why k ≡ wordRules l t k
-      go true t f = let n : ruleNumber why ≡ ruleNumber Refusal.TooManyLetters = cc in ap (λ (j : ℕ). refused j (k ∷ [])) n
+      go true t f = ap (atLine k) f
       go false true f = absurd (refused-apart _ _ _ f)
-      go false false f = let n : ruleNumber why ≡ ruleNumber (Refusal.NotALetter (firstOther word)) = cc in ap (λ (j : ℕ). refused j (k ∷ [])) n
+      go false false f = ap (atLine k) f
 
   -- letters alone, and as many as were read
   word-read : (n : ℕ) → answer n ≡ onAnswer length (fromTextOutcome word)

@@ -6,7 +6,7 @@ use lib.Dec.{eqb, ltb}
 use lib.ListN.{length, getD, take, drop}
 use Rattle.outcome.specs.declared.Refusal.{Refusal}
 use Rattle.outcome.specs.declared.Refusal.the-variants as Refusal
-use Rattle.outcome.specs.Outcome.{ruleNumber, Check}
+use Rattle.outcome.specs.Outcome.{ruleNumber, ruleValues, Check}
 use Rattle.pauli_word.specs.Limits.{maxSites}
 use Rattle.pauli_word.specs.Text.{lettersAlone, firstOther}
 use Rattle.action.specs.Arithmetic.{product}
@@ -90,9 +90,9 @@ firstPass test k texts = every test (take k texts) && every (sameNumbers zeroTex
 
 -- ---- checks
 
--- the rule that a refusal is by, at a line: a sheet's refusals name their line
+-- the rule that a refusal is by, at a line: a sheet's refusals name their line, and then what the rule names
 abbrev pub ruleAt : Refusal → Bool → ℕ → Check
-ruleAt why b line = record { number = ruleNumber why; values = line ∷ []; broken = b }
+ruleAt why b line = record { number = ruleNumber why; values = line ∷ ruleValues why; broken = b }
 
 -- 31: a names line that is another
 abbrev pub namesLine : List ℕ → List ℕ → ℕ → Check

@@ -8,7 +8,7 @@ use lib.IntN.{ℤ, pos}
 use lib.ListN.{length, getD, take, drop}
 use Rattle.outcome.specs.declared.Refusal.{Refusal}
 use Rattle.outcome.specs.declared.Refusal.the-variants as Refusal
-use Rattle.outcome.specs.Outcome.{Outcome, refused, answer, ruleNumber, refusalOf, verdict}
+use Rattle.outcome.specs.Outcome.{Outcome, refused, answer, ruleNumber, ruleValues, refusalOf, verdict}
 use Rattle.action.specs.Arithmetic.{product}
 use Rattle.action.specs.Lists.{sameNumbers}
 use Rattle.group.specs.declared.Group.{Group}
@@ -22,13 +22,13 @@ use Rattle.sheet_lines.specs.declared.LineVerdict.the-variants as LineVe
 use Rattle.sheet_lines.specs.declared.head.Head.{Head}
 use Rattle.sheet_lines.specs.Lines.{zeroText, modesOf, generatorsFor, field, lineShape, sidesUsed, lineSites, shapeChecks, bodyChecks, lineChecks}
 
--- a refusal at a line: by its rule's number, with the line
+-- a refusal at a line: by its rule's number, with the line and then what the rule names
 abbrev pub refusedAt : {A : Type 0} → Refusal → ℕ → Outcome A
-refusedAt why line = refused (ruleNumber why) (line ∷ [])
+refusedAt why line = refused (ruleNumber why) (line ∷ ruleValues why)
 
 -- an outcome at a line: a refusal names its line
 abbrev pub atLine : {A : Type 0} → ℕ → Outcome A → Outcome (Unit {0})
-atLine line (refused number vs) = refused number (line ∷ [])
+atLine line (refused number vs) = refused number (line ∷ vs)
 atLine line (answer a) = answer tt
 
 -- what the checks of lines come to

@@ -14,7 +14,7 @@ use borrow.Author.Tests.{ne-eqb, eqb-true, eqb-false}
 use Rattle.outcome.specs.declared.Refusal.{Refusal}
 use Rattle.outcome.specs.declared.Refusal.the-variants as Refusal
 use Rattle.pauli_word.specs.Limits.{maxSites}
-use Rattle.pauli_word.specs.Text.{lettersAlone}
+use Rattle.pauli_word.specs.Text.{lettersAlone, firstOther}
 use Rattle.outcome.specs.Outcome.{Outcome, refused, answer, verdict, given}
 use Rattle.action.specs.Permutation.{Generator}
 use Rattle.outcome.proofs.Outcomes.{verdict-append, refused-apart}
@@ -130,7 +130,7 @@ pass-any m n k line =
     at a b c d k =
         cond a (refusedAt Refusal.LineForm k)
         (cond b (refusedAt Refusal.TooManyLetters k)
-        (cond c (refusedAt (Refusal.NotALetter 0) k)
+        (cond c (refusedAt (Refusal.NotALetter (firstOther (field 0 line))) k)
         (cond d (refusedAt Refusal.OtherSites k) (answer tt))))
 
     go : (a b c d : Bool) → at a b c d k ≡ answer tt → at a b c d 0 ≡ answer tt

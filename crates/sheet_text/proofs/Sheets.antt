@@ -9,7 +9,7 @@ use native.Mathlib.Omega.{arith}
 use lib.ListN.{length, getD, take, drop, length-drop}
 use lib.Seq.{take-at}
 use borrow.Author.Tests.{lt-ltb, le-ltb}
-use Rattle.outcome.specs.Outcome.{Outcome, refused, answer, verdict, given, onAnswer, done, ruleNumber, refusalOf}
+use Rattle.outcome.specs.Outcome.{Outcome, refused, answer, verdict, given, onAnswer, done, ruleNumber, ruleValues, refusalOf}
 use Rattle.outcome.specs.declared.Refusal.{Refusal}
 use Rattle.outcome.specs.declared.Refusal.the-variants as Refusal
 use Rattle.sheet_lines.specs.declared.LineVerdict.{LineVerdict}
@@ -135,16 +135,17 @@ module _ (input : List ℕ) (k : ℕ) where
       go (answer text) f = refl
 
   pub page-refused : length (sheet input) ≤ k → (why : Refusal) (line : ℕ) → refusedAt why line ≡ onAnswer done (sheetOutcome input)
-      → answer (refusalPage (ruleNumber why) line (length (sheet input))) ≡ writtenOutcome input k
+      → answer (refusalPage (ruleNumber why) line (ruleValues why) (length (sheet input))) ≡ writtenOutcome input k
   unfolding sheet
   page-refused h why line e = go (sheetOutcome input) e ∙ sym (list-long h)
     where
-      go : (o : Outcome (List ℕ)) → refusedAt why line ≡ onAnswer done o → answer (refusalPage (ruleNumber why) line (length (printed o))) ≡ answer (pageOf o)
+      go : (o : Outcome (List ℕ)) → refusedAt why line ≡ onAnswer done o → answer (refusalPage (ruleNumber why) line (ruleValues why) (length (printed o))) ≡ answer (pageOf o)
       go (refused j []) f = let z : _≡_ {A = ℕ} 0 1 = cc in absurd (omega arith)
       go (refused j (l ∷ vs)) f =
           let x : ruleNumber why ≡ j = cc in
           let y : line ≡ l = cc in
-          rw (x, y)
+          let z : ruleValues why ≡ vs = cc in
+          rw (x, y, z)
       go (answer text) f = absurd (refused-apart _ _ tt f)
 
 -- what is written at the front of a list

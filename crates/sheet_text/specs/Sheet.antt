@@ -4,7 +4,7 @@ use mathlib.Core.List.{List, [], _∷_, _++_}
 use lib.Dec.{ltb}
 use lib.ListN.{length, getD, drop}
 use Rattle.outcome.specs.declared.Refusal.the-variants as Refusal
-use Rattle.outcome.specs.Outcome.{Outcome, refused, answer, ruleNumber, refusalOf, Check, rule, unless, orElse}
+use Rattle.outcome.specs.Outcome.{Outcome, refused, answer, ruleNumber, ruleValues, refusalOf, Check, rule, unless, orElse}
 use Rattle.action.specs.Permutation.{Generator}
 use Rattle.text.specs.Text.{lineEnd, pieces, numberOf, decimal, put}
 use Rattle.sheet_lines.specs.Lines.{modesOf, generatorsFor, field, lineShape, ruleAt, lineChecks}
@@ -64,15 +64,16 @@ sheet input = printed (sheetOutcome input)
 
 -- ---- the call: 21 where the list, of length k, is too short for what the sheet prints; else it is written at the front of the list
 
--- what a sheet prints: a table with its length, or the line of a refusal, with its rule's number, the sheet's line and the length of that one line
+-- what a sheet prints: a table with its length, or the line of a refusal, with its rule's number, the sheet's line, what the rule names, and the length of
+-- that one line
 pub data Page : Type 0 where
   tablePage : ℕ → Page
-  refusalPage : ℕ → ℕ → ℕ → Page
+  refusalPage : ℕ → ℕ → List ℕ → ℕ → Page
 
 abbrev pub pageOf : Outcome (List ℕ) → Page
 pageOf (answer text) = tablePage (length text)
-pageOf (refused number []) = refusalPage number 0 (length (printed (refused number [])))
-pageOf (refused number (line ∷ more)) = refusalPage number line (length (printed (refused number (line ∷ more))))
+pageOf (refused number []) = refusalPage number 0 [] (length (printed (refused number [])))
+pageOf (refused number (line ∷ more)) = refusalPage number line more (length (printed (refused number (line ∷ more))))
 
 -- 21: a list that is too short
 abbrev pub tooShort : ℕ → ℕ → Check
@@ -83,7 +84,7 @@ writtenOutcome input k = unless (tooShort k (length (sheet input)) ∷ []) (answ
 
 abbrev pub outcomeOfPrinted : Printed → Outcome Page
 outcomeOfPrinted (Printed.Table length) = answer (tablePage length)
-outcomeOfPrinted (Printed.Refused why line length) = answer (refusalPage (ruleNumber why) line length)
+outcomeOfPrinted (Printed.Refused why line length) = answer (refusalPage (ruleNumber why) line (ruleValues why) length)
 outcomeOfPrinted Printed.ListLength = refusalOf Refusal.ListLength
 
 -- the list afterwards

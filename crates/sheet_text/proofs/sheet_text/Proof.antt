@@ -6,7 +6,7 @@ use native.Mathlib.Omega.{arith}
 use denote.Ref.{now}
 use lib.ListN.{length, take, replicate, length-replicate}
 use borrow.Author.Needs.{needs}
-use Rattle.outcome.specs.Outcome.{answer, ruleNumber}
+use Rattle.outcome.specs.Outcome.{answer, ruleNumber, ruleValues}
 use Rattle.text.specs.Text.{put}
 use Rattle.sheet_lines.specs.Parts.{outcomeOfLines}
 use Rattle.text.proofs.Puts.{put-length}
@@ -98,7 +98,7 @@ returns-3 c =
     let why = w .answer .given .0 .0 in
     let line = w .answer .given .0 .1 .0 in
     let broken = ap outcomeOfLines (sym (w .answer .given .1)) ∙ r .ensures .0 in (
-      ap (λ (k : ℕ). answer (refusalPage (ruleNumber why) line k)) (r .ensures .1 .0) ∙ page-refused (input x) (length (list x)) (room x) why line broken,
+      ap (λ (k : ℕ). answer (refusalPage (ruleNumber why) line (ruleValues why) k)) (r .ensures .1 .0) ∙ page-refused (input x) (length (list x)) (room x) why line broken,
       written x,
     )
 
