@@ -1,12 +1,14 @@
 -- Lattices by their sides and axes: what one comes to by its sides, and that each of the four is what the one function over axes makes.
 -- What carries it: the checks of a lattice are those of its sides, and a side of 1 changes no product.
 use Prim.Native.Nat.{ℕ, _*_, _≤_, _<_}
-use mathlib.Core.Path.{_≡_, sym, ap, _∙_}
+use mathlib.Core.Path.{_≡_, refl, sym, ap, _∙_}
+use mathlib.Core.Bool.{Bool, true, false, not, _&&_}
 use mathlib.Core.List.{List, [], _∷_, map}
+use native.Mathlib.Nat.{zero-mul, mul-zero, mul-pos}
 use native.Mathlib.Omega.{arith}
-use lib.Dec.{ltb}
+use lib.Dec.{eqb, ltb}
 use lib.ListN.{length, take, length-take}
-use borrow.Author.Tests.{ltb-true, ltb-false, not-false}
+use borrow.Author.Tests.{lt-ltb, le-ltb, ltb-true, ltb-false, eqb-true, eqb-false, not-false}
 use Rattle.outcome.specs.declared.Refusal.{Refusal}
 use Rattle.outcome.specs.Outcome.{answer, refusalOf, Check, verdict}
 use Rattle.outcome.proofs.Outcomes.{verdict-fine, call-refused, call-answers, unless-refused, unless-answer}
@@ -21,6 +23,26 @@ use Rattle.generators.proofs.Axes.{sides-within}
 use Rattle.group.specs.declared.Group.{Group}
 use Rattle.group.specs.Value.{groupOf}
 use Rattle.group.specs.Calls.{latticeOutcome, chainOutcome, ladderOutcome, torus2Outcome, torus3Outcome, axesOutcome}
+
+-- `anyZero` looks at the product; a side is 0 just if that is
+pub any-zero : (p q r : ℕ) → anyZero p q r ≡ not (not (eqb p 0) && (not (eqb q 0) && (not (eqb r 0) && true)))
+any-zero p q r = go (eqb p 0) refl (eqb q 0) refl (eqb r 0) refl
+  where
+    none : p * q * r ≡ 0 → anyZero p q r ≡ true
+    none e = ap not (le-ltb 0 (p * q * r) (omega arith))
+
+    go : (s : Bool) → eqb p 0 ≡ s → (t : Bool) → eqb q 0 ≡ t → (u : Bool) → eqb r 0 ≡ u → anyZero p q r ≡ not (not s && (not t && (not u && true)))
+    go true x t y u z = none (ap (λ (i : ℕ). i * q * r) (eqb-true p 0 x) ∙ ap (λ (i : ℕ). i * r) (zero-mul q) ∙ zero-mul r)
+    go false x true y u z = none (ap (λ (i : ℕ). p * i * r) (eqb-true q 0 y) ∙ ap (λ (i : ℕ). i * r) (mul-zero p) ∙ zero-mul r)
+    go false x false y true z = none (ap (λ (i : ℕ). p * q * i) (eqb-true r 0 z) ∙ mul-zero (p * q))
+    go false x false y false z =
+        let i = eqb-false p 0 x in
+        let j = eqb-false q 0 y in
+        let k = eqb-false r 0 z in
+        let a : 0 < p = omega arith in
+        let b : 0 < q = omega arith in
+        let c : 0 < r = omega arith in
+        ap not (lt-ltb 0 (p * q * r) (mul-pos (mul-pos a b) c))
 
 -- groups with the same parts are the same
 pub same-group : {g h : Group} → g .sites ≡ h .sites → g .generators ≡ h .generators → g .orders ≡ h .orders → g .targets ≡ h .targets → g ≡ h

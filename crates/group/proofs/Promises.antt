@@ -3,9 +3,10 @@
 -- 1 What stands beside a refusal, 2 Acceptance, 3 The lattices.
 use Prim.Native.Nat.{ℕ, _*_}
 use mathlib.Core.Path.{_≡_, refl, sym, subst, _∙_}
-use mathlib.Core.Bool.{false}
+use mathlib.Core.Bool.{Bool, true, false, not, _&&_, _||_}
 use mathlib.Core.List.{List, [], _∷_}
 use native.Mathlib.Omega.{arith}
+use lib.Dec.{eqb}
 use Rattle.outcome.specs.Outcome.{answer, verdict}
 use Rattle.outcome.proofs.Outcomes.{call-answers}
 use Rattle.pauli_word.specs.Calls.{siteCount}
@@ -15,8 +16,9 @@ use Rattle.permutation.specs.Generators.{permsOf, listEnd, generatorChecks, dec
 use Rattle.group.specs.declared.Group.{Group}
 use Rattle.group.specs.Value.{groupOf, noGroup, tryFromOutcome, GivenBy, GivenAs, generatorsOf, isGroup, AcceptedGroup}
 use Rattle.group.specs.Calls.{chainOutcome, ladderOutcome, torus2Outcome, torus3Outcome}
-use Rattle.group.proofs.LatticeCalls.{chain-axes, ladder-axes, torus2-axes, torus3-axes}
+use Rattle.group.proofs.LatticeCalls.{chain-axes, ladder-axes, torus2-axes, torus3-axes, any-zero}
 use Rattle.group.proofs.MadeGroups as Given
+use Rattle.generators.specs.Parts.{anyZero}
 
 -- ---- 1 What stands beside a refusal: no call takes it for a group
 
@@ -54,7 +56,16 @@ module _ (g : Group) where
     pub group-valid : Valid (g .sites) (generatorsOf g)
     group-valid = Given.held-valid g ok
 
--- ---- 3 The lattices are the groups of their permutations: a buyer who writes the shifts as a list is given the same value
+-- ---- 3 The lattices are the groups of their permutations: a buyer who writes the shifts as a list is given the same value. 26 is of a side 0
+
+pub side-zero : (a b c : ℕ) → anyZero a b c ≡ (eqb a 0 || (eqb b 0 || eqb c 0))
+side-zero a b c = any-zero a b c ∙ go (eqb a 0) (eqb b 0) (eqb c 0)
+  where
+    go : (x y z : Bool) → not (not x && (not y && (not z && true))) ≡ (x || (y || z))
+    go true y z = refl
+    go false true z = refl
+    go false false true = refl
+    go false false false = refl
 
 module _ (g : Group) where
   pub chain-generators : (n : ℕ) → chainOutcome n ≡ answer g → GivenAs n (chain n) g

@@ -1,7 +1,5 @@
 // The program: reads a sheet from standard input, to its end or to one byte past the limit, and prints its table. A read or a write that fails is told on
 // standard error, with the system's reason; a failed read prints no table.
-ghost use Prim.Native.Nat.{_≤_};
-ghost use lib.ListN.{length};
 use libc::STDIN_FILENO;
 use libc::STDOUT_FILENO;
 use sheet_text::MAX_SHEET;

@@ -5,18 +5,18 @@ use Prim.Native.Nat.{ℕ, zero, suc, _+_, _-_, _*_, _≤_, _<_, min}
 use mathlib.Core.Path.{_≡_, refl, sym, ap, ap₂, subst, _∙_}
 use mathlib.Core.Bool.{Bool, true, false, _&&_, not, cond, false≢true, true≢false}
 use mathlib.Core.List.{List, [], _∷_}
-use native.Mathlib.Nat.{zero-mul, mul-zero, mul-one, mul-assoc, mul-pos}
+use native.Mathlib.Nat.{mul-one, mul-assoc}
 use native.Mathlib.Omega.{arith}
 use lib.Dec.{eqb, ltb}
 use lib.IntN.{ℤ, pos}
 use lib.ListN.{length, getD, take, drop, length-map}
-use borrow.Author.Tests.{eqb-true, eqb-false, eq-eqb, ne-eqb, ltb-true, ltb-false, lt-ltb, le-ltb, not-false}
+use borrow.Author.Tests.{eqb-true, eqb-false, eq-eqb, ne-eqb, ltb-true, ltb-false, not-false}
 use Rattle.pauli_word.specs.Limits.{maxSites}
 use Rattle.outcome.specs.declared.Refusal.{Refusal}
 use Rattle.outcome.specs.declared.Refusal.the-variants as Refusal
 use Rattle.outcome.specs.declared.Verdict.{Verdict}
 use Rattle.outcome.specs.declared.Verdict.the-variants as Verdict
-use Rattle.outcome.specs.Outcome.{Outcome, refused, answer, verdict, given, onAnswer, orElse, done, itself, outcomeOfVerdict, refusalOf, rule, unless, ruleNumber}
+use Rattle.outcome.specs.Outcome.{Outcome, refused, answer, verdict, given, onAnswer, orElse, done, itself, outcomeOfVerdict, refusalOf, rule, unless}
 use Rattle.pauli_word.specs.Word.{Word}
 use Rattle.pauli_word.specs.Text.{letter, lettersAlone, firstOther, readText}
 use Rattle.pauli_word.specs.Calls.{fromTextOutcome}
@@ -42,6 +42,7 @@ use Rattle.action.specs.Arithmetic.{product}
 use Rattle.sheet_lines.specs.Lines.{zeroText, shapeOf, isShape, sidesOf, generatorsFor, firstPass, lineShape, sidesUsed, sideChecks, shapeChecks, letterChecks, valueChecks, ruleAt}
 use Rattle.sheet_lines.specs.Parts.{fitsWhere, modeOrZero, latticeFor, sidesGroup, lineGroup, refusedAt, atLine}
 use Rattle.outcome.proofs.Outcomes.{refused-apart}
+use Rattle.group.proofs.LatticeCalls.{any-zero}
 
 -- what `&line[0..k]` denotes
 pub front-part : (k : ℕ) (line : List ℕ) → take (k - 0) line ≡ take k line
@@ -172,25 +173,6 @@ refused-accepted e = let z : _≡_ {A = ℕ} 0 1 = cc in omega arith
 
 -- ---- sides that are read up to the cap
 
-sides-zero : (p q r : ℕ) → anyZero p q r ≡ not (not (eqb p 0) && (not (eqb q 0) && (not (eqb r 0) && true)))
-sides-zero p q r = go (eqb p 0) refl (eqb q 0) refl (eqb r 0) refl
-  where
-    none : p * q * r ≡ 0 → anyZero p q r ≡ true
-    none e = ap not (le-ltb 0 (p * q * r) (omega arith))
-
-    go : (s : Bool) → eqb p 0 ≡ s → (t : Bool) → eqb q 0 ≡ t → (u : Bool) → eqb r 0 ≡ u → anyZero p q r ≡ not (not s && (not t && (not u && true)))
-    go true x t y u z = none (ap (λ (i : ℕ). i * q * r) (eqb-true p 0 x) ∙ ap (λ (i : ℕ). i * r) (zero-mul q) ∙ zero-mul r)
-    go false x true y u z = none (ap (λ (i : ℕ). p * i * r) (eqb-true q 0 y) ∙ ap (λ (i : ℕ). i * r) (mul-zero p) ∙ zero-mul r)
-    go false x false y true z = none (ap (λ (i : ℕ). p * q * i) (eqb-true r 0 z) ∙ mul-zero (p * q))
-    go false x false y false z =
-        let i = eqb-false p 0 x in
-        let j = eqb-false q 0 y in
-        let k = eqb-false r 0 z in
-        let a : 0 < p = omega arith in
-        let b : 0 < q = omega arith in
-        let c : 0 < r = omega arith in
-        ap not (lt-ltb 0 (p * q * r) (mul-pos (mul-pos a b) c))
-
 eqb-capped : (p x : ℕ) → x ≡ min p cap → eqb x 0 ≡ eqb p 0
 eqb-capped p x e = go (eqb p 0) refl
   where
@@ -212,7 +194,7 @@ sides-small x y z some =
 -- three numbers, and the same up to the cap
 module _ (p q r x y z : ℕ) (ex : x ≡ min p cap) (ey : y ≡ min q cap) (ez : z ≡ min r cap) where
   zero-same : anyZero x y z ≡ anyZero p q r
-  zero-same = sides-zero x y z ∙ simp (eqb-capped p x ex, eqb-capped q y ey, eqb-capped r z ez) (sym (sides-zero p q r))
+  zero-same = any-zero x y z ∙ simp (eqb-capped p x ex, eqb-capped q y ey, eqb-capped r z ez) (sym (any-zero p q r))
 
   few-same : 0 < x * y * z → x * y * z ≤ maxSites → (x ≡ p) × (y ≡ q) × (z ≡ r)
   few-same some few = let (a, b, c) = sides-small x y z some in (omega arith, omega arith, omega arith)
@@ -312,7 +294,7 @@ module _ (a b c : List ℕ) (x y z : ℕ) (ex : x ≡ min (numberOf a) cap) (ey 
   unfolding chainOutcome every product generatorsFor
   chain-met f =
       let p = numberOf a in
-      met-by Kind.Chain a b c (chainOutcome x) p 1 1 refl f (sym (sides-zero p 1 1))
+      met-by Kind.Chain a b c (chainOutcome x) p 1 1 refl f (sym (any-zero p 1 1))
       (capped-lattice p 1 1 x 1 1 ex one-capped one-capped x (p * 1) (chain x) (chain p) (omega arith) (omega arith) (λ s. ap chain (s .0)))
 
   ladder-met : firstPass isNumber 2 (a ∷ b ∷ c ∷ []) ≡ true → Met Kind.Ladder a b c (ladderOutcome x y)
@@ -320,7 +302,7 @@ module _ (a b c : List ℕ) (x y z : ℕ) (ex : x ≡ min (numberOf a) cap) (ey 
   ladder-met f =
       let p = numberOf a in
       let q = numberOf b in
-      met-by Kind.Ladder a b c (ladderOutcome x y) p q 1 refl f (sym (sides-zero p q 1))
+      met-by Kind.Ladder a b c (ladderOutcome x y) p q 1 refl f (sym (any-zero p q 1))
       (capped-lattice p q 1 x y 1 ex ey one-capped (x * y) (p * (q * 1)) (ladder x y) (ladder p q) (sym (mul-one (x * y))) (sym (mul-assoc p q 1))
       (λ s. ap₂ ladder (s .0) (s .1)))
 
@@ -329,7 +311,7 @@ module _ (a b c : List ℕ) (x y z : ℕ) (ex : x ≡ min (numberOf a) cap) (ey 
   torus2-met f =
       let p = numberOf a in
       let q = numberOf b in
-      met-by Kind.Torus2 a b c (torus2Outcome x y) p q 1 refl f (sym (sides-zero p q 1))
+      met-by Kind.Torus2 a b c (torus2Outcome x y) p q 1 refl f (sym (any-zero p q 1))
       (capped-lattice p q 1 x y 1 ex ey one-capped (x * y) (p * (q * 1)) (torus2 x y) (torus2 p q) (sym (mul-one (x * y))) (sym (mul-assoc p q 1))
       (λ s. ap₂ torus2 (s .0) (s .1)))
 
@@ -339,7 +321,7 @@ module _ (a b c : List ℕ) (x y z : ℕ) (ex : x ≡ min (numberOf a) cap) (ey 
       let p = numberOf a in
       let q = numberOf b in
       let r = numberOf c in
-      met-by Kind.Torus3 a b c (torus3Outcome x y z) p q r refl f (sym (sides-zero p q r))
+      met-by Kind.Torus3 a b c (torus3Outcome x y z) p q r refl f (sym (any-zero p q r))
       (capped-lattice p q r x y z ex ey ez (x * y * z) (p * (q * (r * 1))) (torus3 x y z) (torus3 p q r) refl
       (ap (λ (i : ℕ). p * (q * i)) (mul-one r) ∙ sym (mul-assoc p q r))
       (λ s. ap₂ (λ (f : ℕ → List Generator) (k : ℕ). f k) (ap₂ torus3 (s .0) (s .1)) (s .2)))
