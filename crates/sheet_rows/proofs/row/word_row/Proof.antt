@@ -194,7 +194,7 @@ kept-row-requires : tie.Need-kept-row-requires
 kept-row-requires c κs =
     let z = c .before .before .before in
     let x = appending (placing z) in
-    ((small z .0, small z .1, weight-below (weighing x), written x .1), kept z .0)
+    ((omega (arith, small z), omega (arith, small z), weight-below (weighing x), written x .1), kept z .0)
 
 same-length-2 : tie.Need-same-length-2
 same-length-2 c = search needs
