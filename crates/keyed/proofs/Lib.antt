@@ -1,0 +1,2 @@
+-- Laws of rows folded by their keys.
+pub mod Examples

@@ -1,0 +1,2 @@
+-- Rows folded by their keys.
+pub mod Keyed

@@ -1,0 +1,1 @@
+// Definitions and laws alone: rows folded by their keys. No code.
