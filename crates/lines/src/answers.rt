@@ -41,7 +41,11 @@ pub fn refused_on(why: Refusal) {
 
 fn values(why: Refusal) {
     match why {
-        Refusal::ZeroOrder(a) | Refusal::PermutationOrderOverflow(a) => one(a),
+        Refusal::ZeroOrder(a)
+        | Refusal::PermutationOrderOverflow(a)
+        | Refusal::RowBitAboveSites(a)
+        | Refusal::NotFinite(a)
+        | Refusal::SumNotFinite(a) => one(a),
         Refusal::LengthMismatch(a, b)
         | Refusal::PermutationLength(a, b)
         | Refusal::TargetOutOfRange(a, b)

@@ -39,6 +39,8 @@ pub enum Refusal {
     OtherSites,
     // 17: a word bit at or above the site count.
     BitAboveSites,
+    // 17, of a row of a sum: the row.
+    RowBitAboveSites(usize),
     // 18: not one mode for each generator.
     ModeCount,
     // 19: an index not below the group order.
@@ -47,6 +49,14 @@ pub enum Refusal {
     CounterLength,
     // 21: a lent list of another length than needed.
     ListLength,
+    // 22: lists of a sum that disagree in rows, or a word list of another number of bytes a row.
+    SumLists,
+    // 23: more rows than there may be.
+    TooManyRows,
+    // 24: a row whose coefficient is not finite.
+    NotFinite(usize),
+    // 25: the first row that makes a running sum not finite.
+    SumNotFinite(usize),
     // 26: a lattice side 0.
     ZeroSide,
     // 27: sides whose product exceeds the sites that there may be.
@@ -95,10 +105,15 @@ pub fn rule_number(why: Refusal) -> usize
         Refusal::WordLength => 15,
         Refusal::OtherSites => 16,
         Refusal::BitAboveSites => 17,
+        Refusal::RowBitAboveSites(_) => 17,
         Refusal::ModeCount => 18,
         Refusal::IndexRange => 19,
         Refusal::CounterLength => 20,
         Refusal::ListLength => 21,
+        Refusal::SumLists => 22,
+        Refusal::TooManyRows => 23,
+        Refusal::NotFinite(_) => 24,
+        Refusal::SumNotFinite(_) => 25,
         Refusal::ZeroSide => 26,
         Refusal::SidesTooLarge => 27,
         Refusal::TooManyLetters => 28,

@@ -1,0 +1,115 @@
+// Rows exchanged where they stand. Whoever calls a function here owes its `requires`.
+ghost use mathlib.Core.Path.{_≡_};
+ghost use Prim.Native.Nat.{ℕ, _+_, _*_, _≤_, _<_};
+ghost use lib.ListN.{length, getD};
+ghost use lib.Ieee.{nan};
+ghost use Rattle.pauli_word.specs.Limits.{wordLength};
+ghost use Rattle.row_lists.specs.Rows.{maxRows, rowAt, withRow, rowsSwapped, swapped};
+ghost use Rattle.row_lists.specs.Arranging.{toldPositions, toldOwners};
+use pauli_word::WORD_BYTES;
+
+// The bytes of one row.
+pub fn row_of(words: &[u8], row: usize) -> [u8; WORD_BYTES]
+    requires { ⌜ wordLength * row + wordLength ≤ length (now words) ⌝ }
+    ensures { λ r. ⌜ r ≡ rowAt (now (words .entry)) row ⌝ }
+{
+    let start = WORD_BYTES * row;
+    let mut out = [0u8; WORD_BYTES];
+    let mut i = 0;
+    while i < WORD_BYTES {
+        out[i] = words[start + i];
+        i += 1;
+    }
+    out
+}
+
+// Writes over a row.
+pub fn put_row(words: &mut [u8], row: usize, bytes: &[u8])
+    requires { ⌜ wordLength * row + wordLength ≤ length (now words) ⌝ }
+    requires { ⌜ length (now bytes) ≡ wordLength ⌝ }
+    ensures { λ _. ⌜ now (words .exit) ≡ withRow (now (words .entry)) row (now (bytes .entry)) ⌝ }
+{
+    let start = WORD_BYTES * row;
+    let mut i = 0;
+    while i < WORD_BYTES {
+        words[start + i] = bytes[i];
+        i += 1;
+    }
+}
+
+// Exchanges two rows of words.
+pub fn swap_words(words: &mut [u8], a: usize, b: usize)
+    requires { ⌜ wordLength * a + wordLength ≤ length (now words) ⌝ }
+    requires { ⌜ wordLength * b + wordLength ≤ length (now words) ⌝ }
+    ensures { λ _. ⌜ now (words .exit) ≡ rowsSwapped (now (words .entry)) a b ⌝ }
+{
+    let left = row_of(words, a);
+    let right = row_of(words, b);
+    put_row(words, a, &right);
+    put_row(words, b, &left);
+}
+
+// Exchanges two coefficients, and two counts.
+pub fn swap_sums(sums: &mut [f64], counts: &mut [u32], a: usize, b: usize)
+    requires { ⌜ a < length (now sums) ⌝ }
+    requires { ⌜ b < length (now sums) ⌝ }
+    requires { ⌜ length (now counts) ≡ length (now sums) ⌝ }
+    ensures sums { λ _. ⌜ now (sums .exit) ≡ swapped nan (now (sums .entry)) a b ⌝ }
+    ensures counts { λ _. ⌜ now (counts .exit) ≡ swapped 0 (now (counts .entry)) a b ⌝ }
+{
+    let x = sums[a];
+    let y = sums[b];
+    sums[a] = y;
+    sums[b] = x;
+    let m = counts[a];
+    let n = counts[b];
+    counts[a] = n;
+    counts[b] = m;
+}
+
+// Tells the place that the row which stood at k is for, if there is one, that this row stands at `from` now.
+pub fn tell_owner(positions: &mut [u16], owners: &mut [u16], k: usize, from: usize)
+    requires { ⌜ length (now positions) ≡ maxRows ⌝ }
+    requires { ⌜ length (now owners) ≡ maxRows ⌝ }
+    requires { ⌜ k < maxRows ⌝ }
+    requires { ⌜ from < maxRows ⌝ }
+    requires { ⌜ getD (now owners) k 0 < maxRows ⌝ }
+    ensures positions { λ _. ⌜ now (positions .exit) ≡ toldPositions (now (positions .entry)) (now (owners .entry)) k from ⌝ }
+    ensures owners { λ _. ⌜ now (owners .exit) ≡ toldOwners (now (positions .entry)) (now (owners .entry)) k from ⌝ }
+{
+    let owner = owners[k] as usize;
+    let wanted = positions[owner] as usize;
+    if wanted == k {
+        positions[owner] = from as u16;
+        owners[from] = owner as u16;
+    }
+}
+
+// Puts the row that is for place k there, and the row that stood there where the other was.
+pub fn place_row(
+    positions: &mut [u16],
+    owners: &mut [u16],
+    k: usize,
+    words: &mut [u8],
+    sums: &mut [f64],
+    counts: &mut [u32],
+)
+    requires { ⌜ length (now positions) ≡ maxRows ⌝ }
+    requires { ⌜ length (now owners) ≡ maxRows ⌝ }
+    requires { ⌜ length (now sums) ≤ maxRows ⌝ }
+    requires { ⌜ k < length (now sums) ⌝ }
+    requires { ⌜ getD (now positions) k 0 < length (now sums) ⌝ }
+    requires { ⌜ getD (now owners) k 0 < maxRows ⌝ }
+    requires { ⌜ length (now words) ≡ wordLength * length (now sums) ⌝ }
+    requires { ⌜ length (now counts) ≡ length (now sums) ⌝ }
+    ensures positions { λ _. ⌜ now (positions .exit) ≡ toldPositions (now (positions .entry)) (now (owners .entry)) k (getD (now (positions .entry)) k 0) ⌝ }
+    ensures owners { λ _. ⌜ now (owners .exit) ≡ toldOwners (now (positions .entry)) (now (owners .entry)) k (getD (now (positions .entry)) k 0) ⌝ }
+    ensures words { λ _. ⌜ now (words .exit) ≡ rowsSwapped (now (words .entry)) k (getD (now (positions .entry)) k 0) ⌝ }
+    ensures sums { λ _. ⌜ now (sums .exit) ≡ swapped nan (now (sums .entry)) k (getD (now (positions .entry)) k 0) ⌝ }
+    ensures counts { λ _. ⌜ now (counts .exit) ≡ swapped 0 (now (counts .entry)) k (getD (now (positions .entry)) k 0) ⌝ }
+{
+    let from = positions[k] as usize;
+    swap_words(words, k, from);
+    swap_sums(sums, counts, k, from);
+    tell_owner(positions, owners, k, from);
+}

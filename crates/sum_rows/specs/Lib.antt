@@ -1,0 +1,4 @@
+-- What the contracts of this crate say.
+pub mod Sums
+pub mod Rows
+pub mod Held
