@@ -1,1 +1,4 @@
 -- Laws of sums in lists.
+pub mod Finite
+pub mod Inserting
+pub mod RowOrder
