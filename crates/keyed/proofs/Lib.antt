@@ -1,2 +1,3 @@
 -- Laws of rows folded by their keys.
 pub mod Examples
+pub mod Rising
