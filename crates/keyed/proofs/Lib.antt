@@ -1,3 +1,4 @@
 -- Laws of rows folded by their keys.
 pub mod Examples
 pub mod Rising
+pub mod Folds
