@@ -14,6 +14,15 @@ use Rattle.action.specs.Lists.{Member, select, count, every}
 use Rattle.action.proofs.Lists.{of-member-map, count-pos, count-select}
 use Rattle.keyed.specs.Keyed.{Fold, Equality, keyOf, contentsOf, leftFold, foldKey, runningFrom, running, firstFailing}
 
+-- what holds of no member, and of one member more at the end, holds of every list
+module _ {A : Type 0} (Q : List A → Type 0) (next : (xs : List A) (a : A) → Q xs → Q (xs ++ (a ∷ []))) where
+  onward : (rest seen : List A) → Q seen → Q (seen ++ rest)
+  onward [] seen h = rw (append-nil seen) h
+  onward (a ∷ rest) seen h = rw (append-snoc seen a rest) at (onward rest (seen ++ (a ∷ [])) (next seen a h))
+
+  pub by-last : Q [] → (xs : List A) → Q xs
+  by-last h xs = onward xs [] h
+
 pub leftFold-append : {C S : Type 0} (step : S → C → S) (s : S) (cs ds : List C) → leftFold step s (cs ++ ds) ≡ leftFold step (leftFold step s cs) ds
 unfolding leftFold
 leftFold-append step s [] ds = refl

@@ -6,7 +6,7 @@ use native.Mathlib.Omega.{arith}
 use mathlib.Core.Path.{_≡_, refl, sym, _∙_, ap, subst}
 use mathlib.Core.Logic.{_⊎_, inl, inr, ⊎-elim}
 use mathlib.Core.Bool.{Bool, true, false, cond, false≢true}
-use mathlib.Core.List.{List, [], _∷_, _++_}
+use mathlib.Core.List.{List, [], _∷_, _++_, map}
 use lib.ListN.{length, getD}
 use Rattle.action.specs.Lists.{Member, NoRepeats}
 use Rattle.keyed.specs.Keyed.{Orders, Rising, insertKey, insertAll, rising, Slot, found, free, nextSlot, slotOf, insertAt}
@@ -89,6 +89,9 @@ module _ {K : Type 0} (less : K → K → Bool) where
       go (after e) later (inr n) = rw e (inr (later n))
       go (before e f) later n = rw (e, f) (inr n)
       go (level e f) later n = rw (e, f) n
+
+  insert-passing : {P : K → Type 0} (k : K) (js : List K) → P k → ((a : K) → Member a js → P a) → (a : K) → Member a (insertKey less k js) → P a
+  insert-passing k js pk ps a n = ⊎-elim (λ e. rw e pk) (ps a) (of-insert-member k a js n)
 
   insert-length : (k : K) (js : List K) → length (insertKey less k js) ≤ suc (length js)
   unfolding insertKey
@@ -202,6 +205,19 @@ member-getD [] d i h = absurd (not-suc-le-zero h)
 member-getD (a ∷ xs) d zero h = inl refl
 member-getD (a ∷ xs) d (suc i) h = inr (member-getD xs d i (le-of-suc-le-suc h))
 
+abbrev Free : Slot → Type 0
+Free (found i) = ⊥
+Free (free i) = Unit {0}
+
+-- a slot that is found is one where k stands
+abbrev Stands : {K : Type 0} → Slot → K → K → List K → Type 0
+Stands (found i) d k js = getD js i d ≡ k
+Stands (free i) d k js = Unit {0}
+
+stands-next : {K : Type 0} (s : Slot) (d k j : K) (js : List K) → Stands s d k js → Stands (nextSlot s) d k (j ∷ js)
+stands-next (found i) d k j js h = h
+stands-next (free i) d k j js h = h
+
 -- the keys before low are less than k, and k is less than the keys from high on
 pub record Between {K : Type 0} (less : K → K → Bool) (d k : K) (js : List K) (low high : ℕ) : Type 0 where
   pub ordered : low ≤ high
@@ -227,10 +243,8 @@ module _ {K : Type 0} {P : K → Type 0} {less : K → K → Bool} (o : Orders P
   insertAll-member [] js ps qs k m = absurd m
   insertAll-member (b ∷ ks) js ps qs k (inl e) =
       insertAll-keeps less ks (insertKey less b js) k (rw e (insert-member-own b js (qs b (inl refl)) ps))
-  insertAll-member (b ∷ ks) js ps qs k (inr m) = insertAll-member ks (insertKey less b js) passing (λ a n. qs a (inr n)) k m
-    where
-      passing : (a : K) → Member a (insertKey less b js) → P a
-      passing a n = ⊎-elim (λ e. rw e (qs b (inl refl))) (ps a) (of-insert-member less b a js n)
+  insertAll-member (b ∷ ks) js ps qs k (inr m) =
+      insertAll-member ks (insertKey less b js) (insert-passing less b js (qs b (inl refl)) ps) (λ a n. qs a (inr n)) k m
 
   pub rising-member : (ks : List K) → ((a : K) → Member a ks → P a) → (k : K) → Member k ks → Member k (rising less ks)
   unfolding rising
@@ -262,6 +276,16 @@ module _ {K : Type 0} {P : K → Type 0} {less : K → K → Bool} (o : Orders P
   rising-places (j ∷ js) d r (suc a) (suc b) h l =
       rising-places js d (rising-tail less j js r) a b (le-of-suc-le-suc h) (le-of-suc-le-suc l)
 
+  slot-stands : (k : K) (js : List K) (d : K) → P k → ((a : K) → Member a js → P a) → Stands (slotOf less k js) d k js
+  unfolding slotOf
+  slot-stands k [] d pk ps = tt
+  slot-stands k (j ∷ js) d pk ps = go (compared less j k) (slot-stands k js d pk (λ a m. ps a (inr m)))
+    where
+      go : Compared less j k → Stands (slotOf less k js) d k js → Stands (slotOf less k (j ∷ js)) d k (j ∷ js)
+      go (after e) later = rw e (stands-next (slotOf less k js) d k j js later)
+      go (before e f) later = rw (e, f) tt
+      go (level e f) later = rw (e, f) (o .total j k (ps j (inl refl)) pk e f)
+
   slot-own : (js : List K) (d : K) → Rising less js → (m : ℕ) → m < length js → slotOf less (getD js m d) js ≡ found m
   unfolding slotOf
   slot-own [] d r m h = absurd (not-suc-le-zero h)
@@ -269,6 +293,23 @@ module _ {K : Type 0} {P : K → Type 0} {less : K → K → Bool} (o : Orders P
   slot-own (j ∷ js) d r (suc m) h =
       rw (rising-above j js r (getD js m d) (member-getD js d m (le-of-suc-le-suc h)))
       (ap nextSlot (slot-own js d (rising-tail less j js r) m (le-of-suc-le-suc h)))
+
+  slot-member : (js : List K) → Rising less js → (k : K) → Member k js → (m : ℕ) × (slotOf less k js ≡ found m)
+  unfolding slotOf
+  slot-member [] r k m = absurd m
+  slot-member (j ∷ js) r k (inl e) = (0, rw (e, o .irrefl j) refl)
+  slot-member (j ∷ js) r k (inr m) =
+      let (i, later) = slot-member js (rising-tail less j js r) k m in
+      (suc i, rw (rising-above j js r k m) (ap nextSlot later))
+
+  -- a key whose slot is free does not stand there
+  pub slot-free-new : (k : K) (js : List K) (i : ℕ) → Rising less js → slotOf less k js ≡ free i → Member k js → ⊥
+  slot-free-new k js i r e m = let (j, h) = slot-member js r k m in subst Free (sym e ∙ h) tt
+
+  pub slot-found-at :
+      (k : K) (js : List K) (d : K) (i : ℕ) → P k → ((a : K) → Member a js → P a) → slotOf less k js ≡ found i
+      → getD js i d ≡ k
+  slot-found-at k js d i pk ps e = subst (λ (s : Slot). Stands s d k js) e (slot-stands k js d pk ps)
 
   slot-gap :
       (js : List K) (d k : K) (low : ℕ) → low ≤ length js → ((a : ℕ) → a < low → less (getD js a d) k ≡ true)
@@ -324,3 +365,35 @@ module _ {K : Type 0} {P : K → Type 0} {less : K → K → Bool} (o : Orders P
       pub between-found : less (getD js m d) k ≡ false → less k (getD js m d) ≡ false → P k → P (getD js m d) → slotOf less k js ≡ found m
       between-found e f pk pm =
           rw (o .total k (getD js m d) pk pm f e) (slot-own js d r m (omega (arith, b .inside)))
+
+-- ---- keys renamed
+
+-- names are compared as the keys that they name
+module _ {K J : Type 0} {P : K → Type 0} (φ : K → J) (less : K → K → Bool) (over : J → J → Bool)
+    (agree : (a b : K) → P a → P b → over (φ a) (φ b) ≡ less a b) where
+  insert-renamed : (k : K) (js : List K) → P k → ((a : K) → Member a js → P a) → insertKey over (φ k) (map φ js) ≡ map φ (insertKey less k js)
+  unfolding insertKey
+  insert-renamed k [] pk ps = refl
+  insert-renamed k (j ∷ js) pk ps = go (compared less j k) (insert-renamed k js pk (λ a m. ps a (inr m)))
+    where
+      pj : P j
+      pj = ps j (inl refl)
+
+      go : Compared less j k → insertKey over (φ k) (map φ js) ≡ map φ (insertKey less k js)
+          → insertKey over (φ k) (map φ (j ∷ js)) ≡ map φ (insertKey less k (j ∷ js))
+      go (after e) later = rw (agree j k pj pk, e) (ap (λ (l : List J). φ j ∷ l) later)
+      go (before e f) later = rw (agree j k pj pk, agree k j pk pj, e, f) refl
+      go (level e f) later = rw (agree j k pj pk, agree k j pk pj, e, f) refl
+
+  insertAll-renamed :
+      (ks js : List K) → ((a : K) → Member a ks → P a) → ((a : K) → Member a js → P a)
+      → insertAll over (map φ js) (map φ ks) ≡ map φ (insertAll less js ks)
+  unfolding insertAll
+  insertAll-renamed [] js qs ps = refl
+  insertAll-renamed (k ∷ ks) js qs ps =
+      ap (λ (l : List J). insertAll over l (map φ ks)) (insert-renamed k js (qs k (inl refl)) ps)
+      ∙ insertAll-renamed ks (insertKey less k js) (λ a m. qs a (inr m)) (insert-passing less k js (qs k (inl refl)) ps)
+
+  pub rising-renamed : (ks : List K) → ((a : K) → Member a ks → P a) → rising over (map φ ks) ≡ map φ (rising less ks)
+  unfolding rising
+  rising-renamed ks ps = insertAll-renamed ks [] ps (λ a m. absurd m)
