@@ -2,3 +2,4 @@
 pub mod Examples
 pub mod Rising
 pub mod Folds
+pub mod Tables

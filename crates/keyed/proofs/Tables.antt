@@ -1,0 +1,246 @@
+-- The table of rows: its keys, its values, and what one more row does to it.
+-- The fact that carries it: a row changes what its own key comes to, and no other key (`fold-own`, `fold-other`), and keys do not repeat.
+use Prim.Native.Nat.{ℕ, zero, suc, _<_}
+use native.Mathlib.Nat.{le-of-suc-le-suc, not-suc-le-zero}
+use mathlib.Core.Path.{_≡_, refl, sym, _∙_, ap, ap₂, subst}
+use mathlib.Core.Logic.{_⊎_, inl, inr, ⊎-elim}
+use mathlib.Core.Bool.{Bool, true, false, cond, false≢true}
+use mathlib.Core.List.{List, [], _∷_, _++_, map, map-map}
+use lib.ListN.{length, getD, set}
+use Rattle.pauli_word.proofs.Words.{map-append}
+use Rattle.action.specs.Lists.{Member, NoRepeats, select}
+use Rattle.action.proofs.Lists.{member-map, of-member-map, of-member-append, member-append-left, member-append-right}
+use Rattle.keyed.specs.Keyed.{Fold, Orders, Equality, insertKey, rising, found, free, slotOf, insertAt, keyOf, contentsOf, leftFold, foldKey, tableOf, runningFrom, running}
+use Rattle.keyed.proofs.Rising.{member-getD, rising-rising, rising-next, rising-member, of-rising-member, rising-noRepeats, rising-renamed, insert-found, insert-free, slot-found-below, slot-found-at, slot-free-new}
+use Rattle.keyed.proofs.Folds.{by-last, fold-own, fold-other, fold-none, running-next}
+
+-- ---- lists with a member for each key
+
+module _ {A B : Type 0} where
+  pub map-cong : (g h : A → B) (xs : List A) → ((a : A) → Member a xs → g a ≡ h a) → map g xs ≡ map h xs
+  map-cong g h [] e = refl
+  map-cong g h (a ∷ xs) e = ap₂ _∷_ (e a (inl refl)) (map-cong g h xs (λ b m. e b (inr m)))
+
+  getD-map : (g : A → B) (xs : List A) (i : ℕ) (d : B) (c : A) → i < length xs → getD (map g xs) i d ≡ g (getD xs i c)
+  getD-map g [] i d c l = absurd (not-suc-le-zero l)
+  getD-map g (a ∷ xs) zero d c l = refl
+  getD-map g (a ∷ xs) (suc i) d c l = getD-map g xs i d c (le-of-suc-le-suc l)
+
+  map-insertAt : (g : A → B) (i : ℕ) (a : A) (xs : List A) → map g (insertAt i a xs) ≡ insertAt i (g a) (map g xs)
+  map-insertAt g zero a xs = refl
+  map-insertAt g (suc i) a [] = refl
+  map-insertAt g (suc i) a (b ∷ xs) = ap (λ (l : List B). g b ∷ l) (map-insertAt g i a xs)
+
+  -- two maps that differ at the member a alone, which stands at place i
+  map-set :
+      (g h : A → B) (xs : List A) (i : ℕ) (d a : A) → i < length xs → getD xs i d ≡ a → NoRepeats xs
+      → ((b : A) → Member b xs → (b ≡ a → ⊥) → h b ≡ g b) → map h xs ≡ set (map g xs) i (h a)
+  map-set g h [] i d a l e u differ = absurd (not-suc-le-zero l)
+  map-set g h (x ∷ xs) zero d a l e u differ =
+      ap₂ _∷_ (ap h e) (map-cong h g xs (λ b m. differ b (inr m) (λ f. u .0 (subst (λ (c : A). Member c xs) (f ∙ sym e) m))))
+  map-set g h (x ∷ xs) (suc i) d a l e u differ =
+      ap₂ _∷_
+      (differ x (inl refl) (λ f. u .0 (subst (λ (c : A). Member c xs) (e ∙ sym f) (member-getD xs d i (le-of-suc-le-suc l)))))
+      (map-set g h xs i d a (le-of-suc-le-suc l) e (u .1) (λ b m. differ b (inr m)))
+
+keys-paired : {K S : Type 0} (g : K → S) (ks : List K) → map keyOf (map (λ k. (k, g k)) ks) ≡ ks
+keys-paired g [] = refl
+keys-paired g (k ∷ ks) = ap (λ (l : List _). k ∷ l) (keys-paired g ks)
+
+keys-next : {K C : Type 0} (rows : List (K × C)) (row : K × C) → map keyOf (rows ++ (row ∷ [])) ≡ map keyOf rows ++ (row .0 ∷ [])
+keys-next rows row = map-append keyOf rows (row ∷ [])
+
+not-same : {K : Type 0} {same : K → K → Bool} → Equality same → (a b : K) → (a ≡ b → ⊥) → same a b ≡ false
+not-same {same = same} q a b n = go (same a b) refl
+  where
+    go : (t : Bool) → same a b ≡ t → t ≡ false
+    go true e = absurd (n (q .equal a b e))
+    go false e = refl
+
+-- ---- keys and values
+
+-- the different keys of rows
+abbrev pub keysOf : {K C S : Type 0} → Fold K C S → List (K × C) → List K
+keysOf f rows = rising (f .less) (map keyOf rows)
+
+-- a key with what it comes to
+abbrev pub valueOf : {K C S : Type 0} → Fold K C S → List (K × C) → K → K × S
+valueOf f rows k = (k, foldKey f k rows)
+
+module _ {K C S : Type 0} (f : Fold K C S) where
+  pub table-keys : (rows : List (K × C)) → map keyOf (tableOf f rows) ≡ rising (f .less) (map keyOf rows)
+  unfolding tableOf
+  table-keys rows = keys-paired (λ k. foldKey f k rows) (keysOf f rows)
+
+  pub table-key : (rows : List (K × C)) (k : K) (s : S) → Member (k, s) (tableOf f rows) → Member k (map keyOf rows)
+  table-key rows k s m =
+      of-rising-member (f .less) (map keyOf rows) k (rw (table-keys rows) at (member-map keyOf (tableOf f rows) (k, s) m))
+
+  pub table-value : (rows : List (K × C)) (k : K) (s : S) → Member (k, s) (tableOf f rows) → s ≡ foldKey f k rows
+  unfolding tableOf
+  table-value rows k s m =
+      let (a, n, e) = of-member-map (valueOf f rows) (keysOf f rows) (k, s) m in
+      ap (λ (r : K × S). r .1) e ∙ ap (λ (b : K). foldKey f b rows) (sym (ap keyOf e))
+
+  keys-after : (rows : List (K × C)) (row : K × C) → keysOf f (rows ++ (row ∷ [])) ≡ insertKey (f .less) (row .0) (keysOf f rows)
+  keys-after rows row = ap (rising (f .less)) (keys-next rows row) ∙ rising-next (f .less) (map keyOf rows) (row .0)
+
+  module _ (q : Equality (f .same)) where
+    value-other : (rows : List (K × C)) (row : K × C) (b : K) → (b ≡ row .0 → ⊥) → valueOf f (rows ++ (row ∷ [])) b ≡ valueOf f rows b
+    value-other rows row b n = ap (λ (s : S). (b, s)) (fold-other f b rows row (not-same q (row .0) b (λ e. n (sym e))))
+
+    -- each key with a row comes to what its last row comes to
+    last-running : (k : K) (rows : List (K × C)) → Member k (map keyOf rows) → Member (foldKey f k rows) (running f rows)
+    last-running k =
+        by-last (λ rows. Member k (map keyOf rows) → Member (foldKey f k rows) (running f rows)) next (λ m. absurd m)
+      where
+        next :
+            (rows : List (K × C)) (row : K × C) → (Member k (map keyOf rows) → Member (foldKey f k rows) (running f rows))
+            → Member k (map keyOf (rows ++ (row ∷ []))) → Member (foldKey f k (rows ++ (row ∷ []))) (running f (rows ++ (row ∷ [])))
+        next rows row later m = rw (running-next f rows row) (go (f .same (row .0) k) refl)
+          where
+            all : List (K × C)
+            all = rows ++ (row ∷ [])
+
+            Listed : Type 0
+            Listed = Member (foldKey f k all) (running f rows ++ (foldKey f (row .0) all ∷ []))
+
+            before : Member k (map keyOf rows) ⊎ Member k (row .0 ∷ []) → f .same (row .0) k ≡ false → Member k (map keyOf rows)
+            before (inl n) e = n
+            before (inr (inl g)) e = absurd (false≢true (sym e ∙ ap (f .same (row .0)) g ∙ q .reflexive (row .0)))
+            before (inr (inr n)) e = absurd n
+
+            go : (t : Bool) → f .same (row .0) k ≡ t → Listed
+            go true e =
+                member-append-right (running f rows) (foldKey f (row .0) all ∷ []) (foldKey f k all)
+                (inl (ap (λ (b : K). foldKey f b all) (sym (q .equal (row .0) k e))))
+            go false e =
+                member-append-left (running f rows) (foldKey f (row .0) all ∷ []) (foldKey f k all)
+                (rw (fold-other f k rows row e)
+                (later (before (of-member-append (map keyOf rows) (row .0 ∷ []) k (rw (keys-next rows row) at m)) e)))
+
+    pub table-running : (rows : List (K × C)) (k : K) (s : S) → Member (k, s) (tableOf f rows) → Member s (running f rows)
+    table-running rows k s m = rw (table-value rows k s m) (last-running k rows (table-key rows k s m))
+
+-- ---- one row more
+
+module _ {K C S : Type 0} {P : K → Type 0} (f : Fold K C S) (o : Orders P (f .less)) (q : Equality (f .same))
+    (rows : List (K × C)) (row : K × C) (ps : (a : K) → Member a (map keyOf (rows ++ (row ∷ []))) → P a) (i : ℕ) where
+  own-passes : P (row .0)
+  own-passes = ps (row .0) (rw (keys-next rows row) (member-append-right (map keyOf rows) (row .0 ∷ []) (row .0) (inl refl)))
+
+  seen-pass : (a : K) → Member a (map keyOf rows) → P a
+  seen-pass a m = ps a (rw (keys-next rows row) (member-append-left (map keyOf rows) (row .0 ∷ []) a m))
+
+  -- its key has a row already
+  module _ (e : slotOf (f .less) (row .0) (rising (f .less) (map keyOf rows)) ≡ found i) where
+    at-found : getD (keysOf f rows) i (row .0) ≡ row .0
+    at-found =
+        slot-found-at o (row .0) (keysOf f rows) (row .0) i own-passes
+        (λ a m. seen-pass a (of-rising-member (f .less) (map keyOf rows) a m)) e
+
+    below-found : i < length (keysOf f rows)
+    below-found = slot-found-below (f .less) (row .0) (keysOf f rows) i e
+
+    pub table-at-found : (d : K × S) → getD (tableOf f rows) i d ≡ (row .0, foldKey f (row .0) rows)
+    unfolding tableOf
+    table-at-found d = getD-map (valueOf f rows) (keysOf f rows) i d (row .0) below-found ∙ ap (valueOf f rows) at-found
+
+    pub table-found : tableOf f (rows ++ (row ∷ [])) ≡ set (tableOf f rows) i (row .0, f .step (foldKey f (row .0) rows) (row .1))
+    unfolding tableOf
+    table-found =
+        ap (map (valueOf f (rows ++ (row ∷ [])))) (keys-after f rows row ∙ insert-found (f .less) (row .0) (keysOf f rows) i e)
+        ∙ map-set (valueOf f rows) (valueOf f (rows ++ (row ∷ []))) (keysOf f rows) i (row .0) (row .0) below-found at-found
+        (rising-noRepeats o (keysOf f rows) (rising-rising (f .less) (map keyOf rows))) (λ b m. value-other f q rows row b)
+        ∙ ap (λ (s : S). set (tableOf f rows) i (row .0, s)) (fold-own f q rows row)
+
+  -- its key is new
+  module _ (e : slotOf (f .less) (row .0) (rising (f .less) (map keyOf rows)) ≡ free i) where
+    key-new : Member (row .0) (keysOf f rows) → ⊥
+    key-new = slot-free-new o (row .0) (keysOf f rows) i (rising-rising (f .less) (map keyOf rows)) e
+
+    fold-first : foldKey f (row .0) (rows ++ (row ∷ [])) ≡ f .step (f .start) (row .1)
+    fold-first =
+        fold-own f q rows row
+        ∙ ap (λ (s : S). f .step s (row .1))
+        (fold-none f q (row .0) rows (λ m. key-new (rising-member o (map keyOf rows) seen-pass (row .0) m)))
+
+    pub table-free : tableOf f (rows ++ (row ∷ [])) ≡ insertAt i (row .0, f .step (f .start) (row .1)) (tableOf f rows)
+    unfolding tableOf
+    table-free =
+        ap (map (valueOf f (rows ++ (row ∷ [])))) (keys-after f rows row ∙ insert-free (f .less) (row .0) (keysOf f rows) i e)
+        ∙ map-insertAt (valueOf f (rows ++ (row ∷ []))) i (row .0) (keysOf f rows)
+        ∙ ap (insertAt i (valueOf f (rows ++ (row ∷ [])) (row .0)))
+        (map-cong (valueOf f (rows ++ (row ∷ []))) (valueOf f rows) (keysOf f rows)
+        (λ b m. value-other f q rows row b (λ g. key-new (subst (λ (c : K). Member c (keysOf f rows)) g m))))
+        ∙ ap (λ (s : S). insertAt i (row .0, s) (tableOf f rows)) fold-first
+
+-- ---- keys renamed
+
+abbrev pub renamed : {K J C : Type 0} → (K → J) → K × C → J × C
+renamed φ row = (φ (row .0), row .1)
+
+keys-renamed : {K J C : Type 0} (φ : K → J) (rows : List (K × C)) → map keyOf (map (renamed φ) rows) ≡ map φ (map keyOf rows)
+keys-renamed φ [] = refl
+keys-renamed φ (row ∷ rows) = ap (λ (l : List _). φ (row .0) ∷ l) (keys-renamed φ rows)
+
+module _ {K J C S : Type 0} {P : K → Type 0} (φ : K → J) (f : Fold K C S) (g : Fold J C S)
+    (starts : g .start ≡ f .start) (steps : g .step ≡ f .step)
+    (lesses : (a b : K) → P a → P b → g .less (φ a) (φ b) ≡ f .less a b)
+    (sames : (a b : K) → P a → P b → g .same (φ a) (φ b) ≡ f .same a b) where
+  contents-renamed :
+      (k : K) → P k → (rows : List (K × C)) → ((a : K) → Member a (map keyOf rows) → P a)
+      → contentsOf g (φ k) (map (renamed φ) rows) ≡ contentsOf f k rows
+  unfolding contentsOf select
+  contents-renamed k pk [] ps = refl
+  contents-renamed k pk (row ∷ rows) ps = go (f .same (row .0) k) refl (contents-renamed k pk rows (λ a m. ps a (inr m)))
+    where
+      e : g .same (φ (row .0)) (φ k) ≡ f .same (row .0) k
+      e = sames (row .0) k (ps (row .0) (inl refl)) pk
+
+      go : (t : Bool) → f .same (row .0) k ≡ t → contentsOf g (φ k) (map (renamed φ) rows) ≡ contentsOf f k rows
+          → contentsOf g (φ k) (map (renamed φ) (row ∷ rows)) ≡ contentsOf f k (row ∷ rows)
+      go true h later = rw (e, h) (ap (λ (l : List C). row .1 ∷ l) later)
+      go false h later = rw (e, h) later
+
+  pub fold-renamed :
+      (k : K) → P k → (rows : List (K × C)) → ((a : K) → Member a (map keyOf rows) → P a)
+      → foldKey g (φ k) (map (renamed φ) rows) ≡ foldKey f k rows
+  unfolding foldKey
+  fold-renamed k pk rows ps = rw (starts, steps, contents-renamed k pk rows ps)
+
+  pub table-renamed :
+      (rows : List (K × C)) → ((a : K) → Member a (map keyOf rows) → P a)
+      → tableOf g (map (renamed φ) rows) ≡ map (renamed φ) (tableOf f rows)
+  unfolding tableOf
+  table-renamed rows ps =
+      ap (map (valueOf g (map (renamed φ) rows)))
+      (ap (rising (g .less)) (keys-renamed φ rows) ∙ rising-renamed φ (f .less) (g .less) lesses (map keyOf rows) ps)
+      ∙ map-map (valueOf g (map (renamed φ) rows)) φ (keysOf f rows)
+      ∙ map-cong (λ k. valueOf g (map (renamed φ) rows) (φ k)) (λ k. renamed φ (valueOf f rows k)) (keysOf f rows)
+      (λ k m.
+      let n : Member k (map keyOf rows) = of-rising-member (f .less) (map keyOf rows) k m in
+      ap (λ (s : S). (φ k, s)) (fold-renamed k (ps k n) rows ps))
+      ∙ sym (map-map (renamed φ) (valueOf f rows) (keysOf f rows))
+
+  runningFrom-renamed :
+      (rows seen : List (K × C)) → ((a : K) → Member a (map keyOf seen) → P a) → ((a : K) → Member a (map keyOf rows) → P a)
+      → runningFrom g (map (renamed φ) seen) (map (renamed φ) rows) ≡ runningFrom f seen rows
+  unfolding runningFrom
+  runningFrom-renamed [] seen ss ps = refl
+  runningFrom-renamed (row ∷ rows) seen ss ps =
+      rw (← map-append (renamed φ) seen (row ∷ []))
+      (ap₂ _∷_ (fold-renamed (row .0) (ps (row .0) (inl refl)) (seen ++ (row ∷ [])) passing)
+      (runningFrom-renamed rows (seen ++ (row ∷ [])) passing (λ a m. ps a (inr m))))
+    where
+      one : (a : K) → Member a (row .0 ∷ []) → P a
+      one a (inl e) = ps a (inl e)
+      one a (inr n) = absurd n
+
+      passing : (a : K) → Member a (map keyOf (seen ++ (row ∷ []))) → P a
+      passing a m = ⊎-elim (ss a) (one a) (of-member-append (map keyOf seen) (row .0 ∷ []) a (rw (keys-next seen row) at m))
+
+  pub running-renamed :
+      (rows : List (K × C)) → ((a : K) → Member a (map keyOf rows) → P a)
+      → running g (map (renamed φ) rows) ≡ running f rows
+  running-renamed rows ps = runningFrom-renamed rows [] (λ a m. absurd m) ps
