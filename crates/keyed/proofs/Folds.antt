@@ -4,7 +4,7 @@ use Prim.Native.Nat.{ℕ, zero, suc, _<_, suc-le-suc}
 use native.Mathlib.Nat.{le-of-suc-le-suc, not-suc-le-zero}
 use native.Mathlib.Omega.{arith}
 use mathlib.Core.Path.{_≡_, refl, sym, _∙_, ap}
-use mathlib.Core.Logic.{_⊎_, inl, inr}
+use mathlib.Core.Logic.{inl, inr}
 use mathlib.Core.Bool.{Bool, true, false, _&&_, cond, false≢true, and-assoc, and-false, and-eq-true-iff}
 use mathlib.Core.List.{List, [], _∷_, _++_, map, append-nil}
 use lib.ListN.{length, getD, length-map}
@@ -82,6 +82,13 @@ module _ {A : Type 0} (p : A → Bool) where
 
 -- ---- what a key comes to
 
+pub not-same : {K : Type 0} {same : K → K → Bool} → Equality same → (a b : K) → (a ≡ b → ⊥) → same a b ≡ false
+not-same {same = same} q a b n = go (same a b) refl
+  where
+    go : (t : Bool) → same a b ≡ t → t ≡ false
+    go true e = absurd (n (q .equal a b e))
+    go false e = refl
+
 module _ {K C S : Type 0} (f : Fold K C S) where
   pub contents-append : (k : K) (xs ys : List (K × C)) → contentsOf f k (xs ++ ys) ≡ contentsOf f k xs ++ contentsOf f k ys
   unfolding contentsOf
@@ -118,11 +125,7 @@ module _ {K C S : Type 0} (f : Fold K C S) where
     pub contents-none : (k : K) (rows : List (K × C)) → (Member k (map keyOf rows) → ⊥) → contentsOf f k rows ≡ []
     unfolding contentsOf select
     contents-none k [] n = refl
-    contents-none k (row ∷ rows) n = go (f .same (row .0) k) refl (contents-none k rows (λ m. n (inr m)))
-      where
-        go : (t : Bool) → f .same (row .0) k ≡ t → contentsOf f k rows ≡ [] → contentsOf f k (row ∷ rows) ≡ []
-        go true e later = absurd (n (inl (sym (q .equal (row .0) k e))))
-        go false e later = rw e later
+    contents-none k (row ∷ rows) n = rw (not-same q (row .0) k (λ e. n (inl (sym e)))) (contents-none k rows (λ m. n (inr m)))
 
     pub fold-none : (k : K) (rows : List (K × C)) → (Member k (map keyOf rows) → ⊥) → foldKey f k rows ≡ f .start
     unfolding foldKey leftFold

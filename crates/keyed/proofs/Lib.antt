@@ -3,3 +3,4 @@ pub mod Examples
 pub mod Rising
 pub mod Folds
 pub mod Tables
+pub mod Sums

@@ -5,7 +5,7 @@ use native.Mathlib.Nat.{eq-or-lt-of-le, le-of-suc-le-suc, not-suc-le-zero}
 use native.Mathlib.Omega.{arith}
 use mathlib.Core.Path.{_≡_, refl, sym, _∙_, ap, subst}
 use mathlib.Core.Logic.{_⊎_, inl, inr, ⊎-elim}
-use mathlib.Core.Bool.{Bool, true, false, cond, false≢true}
+use mathlib.Core.Bool.{Bool, true, false, false≢true}
 use mathlib.Core.List.{List, [], _∷_, _++_, map}
 use lib.ListN.{length, getD}
 use Rattle.action.specs.Lists.{Member, NoRepeats}
@@ -70,11 +70,15 @@ module _ {K : Type 0} (less : K → K → Bool) where
   of-insert-member k a [] m = m
   of-insert-member k a (j ∷ js) m = go (compared less j k) (of-insert-member k a js) m
     where
-      first : (Member a (insertKey less k js) → (a ≡ k) ⊎ Member a js) → (a ≡ j) ⊎ Member a (insertKey less k js) → (a ≡ k) ⊎ Member a (j ∷ js)
+      first :
+          (Member a (insertKey less k js) → (a ≡ k) ⊎ Member a js) → (a ≡ j) ⊎ Member a (insertKey less k js)
+          → (a ≡ k) ⊎ Member a (j ∷ js)
       first later (inl e) = inr (inl e)
       first later (inr n) = ⊎-elim (λ e. inl e) (λ e. inr (inr e)) (later n)
 
-      go : Compared less j k → (Member a (insertKey less k js) → (a ≡ k) ⊎ Member a js) → Member a (insertKey less k (j ∷ js)) → (a ≡ k) ⊎ Member a (j ∷ js)
+      go :
+          Compared less j k → (Member a (insertKey less k js) → (a ≡ k) ⊎ Member a js) → Member a (insertKey less k (j ∷ js))
+          → (a ≡ k) ⊎ Member a (j ∷ js)
       go (after e) later n = first later (rw e at n)
       go (before e f) later n = rw (e, f) at n
       go (level e f) later n = inr (rw (e, f) at n)
@@ -164,7 +168,9 @@ module _ {K : Type 0} (less : K → K → Bool) where
   insert-slot k [] = refl
   insert-slot k (j ∷ js) = go (compared less j k) (insert-slot k js)
     where
-      go : Compared less j k → insertKey less k js ≡ placed (slotOf less k js) k js → insertKey less k (j ∷ js) ≡ placed (slotOf less k (j ∷ js)) k (j ∷ js)
+      go :
+          Compared less j k → insertKey less k js ≡ placed (slotOf less k js) k js
+          → insertKey less k (j ∷ js) ≡ placed (slotOf less k (j ∷ js)) k (j ∷ js)
       go (after e) later = rw e (ap (λ (l : List K). j ∷ l) later ∙ sym (placed-next (slotOf less k js) k j js))
       go (before e f) later = rw (e, f) refl
       go (level e f) later = rw (e, f) refl

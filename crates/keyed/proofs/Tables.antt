@@ -4,15 +4,17 @@ use Prim.Native.Nat.{ℕ, zero, suc, _<_}
 use native.Mathlib.Nat.{le-of-suc-le-suc, not-suc-le-zero}
 use mathlib.Core.Path.{_≡_, refl, sym, _∙_, ap, ap₂, subst}
 use mathlib.Core.Logic.{_⊎_, inl, inr, ⊎-elim}
-use mathlib.Core.Bool.{Bool, true, false, cond, false≢true}
+use mathlib.Core.Bool.{Bool, true, false, false≢true}
 use mathlib.Core.List.{List, [], _∷_, _++_, map, map-map}
 use lib.ListN.{length, getD, set}
 use Rattle.pauli_word.proofs.Words.{map-append}
 use Rattle.action.specs.Lists.{Member, NoRepeats, select}
 use Rattle.action.proofs.Lists.{member-map, of-member-map, of-member-append, member-append-left, member-append-right}
-use Rattle.keyed.specs.Keyed.{Fold, Orders, Equality, insertKey, rising, found, free, slotOf, insertAt, keyOf, contentsOf, leftFold, foldKey, tableOf, runningFrom, running}
-use Rattle.keyed.proofs.Rising.{member-getD, rising-rising, rising-next, rising-member, of-rising-member, rising-noRepeats, rising-renamed, insert-found, insert-free, slot-found-below, slot-found-at, slot-free-new}
-use Rattle.keyed.proofs.Folds.{by-last, fold-own, fold-other, fold-none, running-next}
+use Rattle.keyed.specs.Keyed.{Fold, Orders, Equality, insertKey, rising, found, free, slotOf}
+use Rattle.keyed.specs.Keyed.{insertAt, keyOf, contentsOf, foldKey, tableOf, runningFrom, running}
+use Rattle.keyed.proofs.Rising.{member-getD, rising-rising, rising-next, rising-member, of-rising-member, rising-noRepeats}
+use Rattle.keyed.proofs.Rising.{rising-renamed, insert-found, insert-free, slot-found-below, slot-found-at, slot-free-new}
+use Rattle.keyed.proofs.Folds.{by-last, not-same, fold-own, fold-other, fold-none, running-next}
 
 -- ---- lists with a member for each key
 
@@ -50,13 +52,6 @@ keys-paired g (k ∷ ks) = ap (λ (l : List _). k ∷ l) (keys-paired g ks)
 keys-next : {K C : Type 0} (rows : List (K × C)) (row : K × C) → map keyOf (rows ++ (row ∷ [])) ≡ map keyOf rows ++ (row .0 ∷ [])
 keys-next rows row = map-append keyOf rows (row ∷ [])
 
-not-same : {K : Type 0} {same : K → K → Bool} → Equality same → (a b : K) → (a ≡ b → ⊥) → same a b ≡ false
-not-same {same = same} q a b n = go (same a b) refl
-  where
-    go : (t : Bool) → same a b ≡ t → t ≡ false
-    go true e = absurd (n (q .equal a b e))
-    go false e = refl
-
 -- ---- keys and values
 
 -- the different keys of rows
@@ -89,35 +84,37 @@ module _ {K C S : Type 0} (f : Fold K C S) where
     value-other : (rows : List (K × C)) (row : K × C) (b : K) → (b ≡ row .0 → ⊥) → valueOf f (rows ++ (row ∷ [])) b ≡ valueOf f rows b
     value-other rows row b n = ap (λ (s : S). (b, s)) (fold-other f b rows row (not-same q (row .0) b (λ e. n (sym e))))
 
-    -- each key with a row comes to what its last row comes to
-    last-running : (k : K) (rows : List (K × C)) → Member k (map keyOf rows) → Member (foldKey f k rows) (running f rows)
-    last-running k =
-        by-last (λ rows. Member k (map keyOf rows) → Member (foldKey f k rows) (running f rows)) next (λ m. absurd m)
+    -- a key other than the last row's has a row before it
+    key-before :
+        (k : K) (rows : List (K × C)) (row : K × C) → f .same (row .0) k ≡ false → Member k (map keyOf (rows ++ (row ∷ [])))
+        → Member k (map keyOf rows)
+    key-before k rows row e m = go (of-member-append (map keyOf rows) (row .0 ∷ []) k (rw (keys-next rows row) at m))
       where
-        next :
-            (rows : List (K × C)) (row : K × C) → (Member k (map keyOf rows) → Member (foldKey f k rows) (running f rows))
-            → Member k (map keyOf (rows ++ (row ∷ []))) → Member (foldKey f k (rows ++ (row ∷ []))) (running f (rows ++ (row ∷ [])))
-        next rows row later m = rw (running-next f rows row) (go (f .same (row .0) k) refl)
-          where
-            all : List (K × C)
-            all = rows ++ (row ∷ [])
+        go : Member k (map keyOf rows) ⊎ Member k (row .0 ∷ []) → Member k (map keyOf rows)
+        go (inl n) = n
+        go (inr (inl g)) = absurd (false≢true (sym e ∙ ap (f .same (row .0)) g ∙ q .reflexive (row .0)))
+        go (inr (inr n)) = absurd n
 
-            Listed : Type 0
-            Listed = Member (foldKey f k all) (running f rows ++ (foldKey f (row .0) all ∷ []))
+    -- each key that has a row comes to what its last row comes to
+    abbrev LastRunning : K → List (K × C) → Type 0
+    LastRunning k rows = Member k (map keyOf rows) → Member (foldKey f k rows) (running f rows)
 
-            before : Member k (map keyOf rows) ⊎ Member k (row .0 ∷ []) → f .same (row .0) k ≡ false → Member k (map keyOf rows)
-            before (inl n) e = n
-            before (inr (inl g)) e = absurd (false≢true (sym e ∙ ap (f .same (row .0)) g ∙ q .reflexive (row .0)))
-            before (inr (inr n)) e = absurd n
+    last-running-next : (k : K) (rows : List (K × C)) (row : K × C) → LastRunning k rows → LastRunning k (rows ++ (row ∷ []))
+    last-running-next k rows row later m = rw (running-next f rows row) (go (f .same (row .0) k) refl)
+      where
+        all : List (K × C)
+        all = rows ++ (row ∷ [])
 
-            go : (t : Bool) → f .same (row .0) k ≡ t → Listed
-            go true e =
-                member-append-right (running f rows) (foldKey f (row .0) all ∷ []) (foldKey f k all)
-                (inl (ap (λ (b : K). foldKey f b all) (sym (q .equal (row .0) k e))))
-            go false e =
-                member-append-left (running f rows) (foldKey f (row .0) all ∷ []) (foldKey f k all)
-                (rw (fold-other f k rows row e)
-                (later (before (of-member-append (map keyOf rows) (row .0 ∷ []) k (rw (keys-next rows row) at m)) e)))
+        go : (t : Bool) → f .same (row .0) k ≡ t → Member (foldKey f k all) (running f rows ++ (foldKey f (row .0) all ∷ []))
+        go true e =
+            member-append-right (running f rows) (foldKey f (row .0) all ∷ []) (foldKey f k all)
+            (inl (ap (λ (b : K). foldKey f b all) (sym (q .equal (row .0) k e))))
+        go false e =
+            member-append-left (running f rows) (foldKey f (row .0) all ∷ []) (foldKey f k all)
+            (rw (fold-other f k rows row e) (later (key-before k rows row e m)))
+
+    pub last-running : (k : K) (rows : List (K × C)) → Member k (map keyOf rows) → Member (foldKey f k rows) (running f rows)
+    last-running k = by-last (LastRunning k) (last-running-next k) (λ m. absurd m)
 
     pub table-running : (rows : List (K × C)) (k : K) (s : S) → Member (k, s) (tableOf f rows) → Member s (running f rows)
     table-running rows k s m = rw (table-value rows k s m) (last-running k rows (table-key rows k s m))
