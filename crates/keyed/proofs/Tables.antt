@@ -10,7 +10,7 @@ use lib.ListN.{length, getD, set}
 use Rattle.pauli_word.proofs.Words.{map-append}
 use Rattle.action.specs.Lists.{Member, NoRepeats, select}
 use Rattle.action.proofs.Lists.{member-map, of-member-map, of-member-append, member-append-left, member-append-right}
-use Rattle.keyed.specs.Keyed.{Fold, Orders, Equality, insertKey, rising, found, free, slotOf}
+use Rattle.keyed.specs.Keyed.{Fold, Orders, Equality, insertKey, rising, found, free, slotOf, renamed}
 use Rattle.keyed.specs.Keyed.{insertAt, keyOf, contentsOf, foldKey, tableOf, runningFrom, running}
 use Rattle.keyed.proofs.Rising.{member-getD, rising-rising, rising-next, rising-member, of-rising-member, rising-noRepeats}
 use Rattle.keyed.proofs.Rising.{rising-renamed, insert-found, insert-free, slot-found-below, slot-found-at, slot-free-new}
@@ -173,9 +173,6 @@ module _ {K C S : Type 0} {P : K → Type 0} (f : Fold K C S) (o : Orders P (f .
         ∙ ap (λ (s : S). insertAt i (row .0, s) (tableOf f rows)) fold-first
 
 -- ---- keys renamed
-
-abbrev pub renamed : {K J C : Type 0} → (K → J) → K × C → J × C
-renamed φ row = (φ (row .0), row .1)
 
 keys-renamed : {K J C : Type 0} (φ : K → J) (rows : List (K × C)) → map keyOf (map (renamed φ) rows) ≡ map φ (map keyOf rows)
 keys-renamed φ [] = refl

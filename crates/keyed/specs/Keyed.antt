@@ -71,6 +71,10 @@ insertAt i a xs = take i xs ++ (a ∷ drop i xs)
 abbrev pub keyOf : {K C : Type 0} → K × C → K
 keyOf row = row .0
 
+-- a row with its key put through a function
+abbrev pub renamed : {K J C : Type 0} → (K → J) → K × C → J × C
+renamed φ row = (φ (row .0), row .1)
+
 -- the contents of the rows with key k, in the order of the rows
 unfoldable pub contentsOf : {K C S : Type 0} → Fold K C S → K → List (K × C) → List C
 unfolding select

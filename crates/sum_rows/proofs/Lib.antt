@@ -2,3 +2,5 @@
 pub mod Finite
 pub mod Inserting
 pub mod RowOrder
+pub mod RowKeys
+pub mod Searching

@@ -1,13 +1,15 @@
 -- Sums of coefficients by word: what a word's rows come to, by the logic's account of IEEE 754, and what folding rows comes to.
-use Prim.Native.Nat.{suc}
+use Prim.Native.Nat.{ℕ, suc, _-_, _*_}
 use mathlib.Core.Bool.{Bool, true, false, not}
-use mathlib.Core.List.{List, [], _∷_}
+use mathlib.Core.List.{List, [], _∷_, _++_, map}
+use lib.ListN.{length, replicate}
 use lib.Ieee.{Float, nan, inf, fin, binary64, add}
 use Rattle.outcome.specs.declared.Refusal.the-variants as Refusal
-use Rattle.outcome.specs.Outcome.{Outcome, answer, Check, rule, unless}
+use Rattle.outcome.specs.Outcome.{Outcome, answer, Check, rule, unless, itself, orElse}
+use Rattle.pauli_word.specs.Limits.{wordLength}
 use Rattle.action.specs.Lists.{every}
-use Rattle.keyed.specs.Keyed.{Fold, tableOf, runningFrom, running, firstFailing}
-use Rattle.row_lists.specs.Rows.{zero}
+use Rattle.keyed.specs.Keyed.{Fold, keyOf, tableOf, runningFrom, running, firstFailing}
+use Rattle.row_lists.specs.Rows.{zero, joinRows}
 use Rattle.sum_rows.specs.declared.RowSum.{RowSum}
 
 -- whether a float is a number, and not an infinity or a NaN
@@ -40,3 +42,18 @@ overflow f rows = rule (Refusal.SumNotFinite (firstFailing finiteSum (running f 
 unfoldable pub foldOutcome : {K : Type 0} → Fold K Float RowSum → List (K × Float) → Outcome (List (K × RowSum))
 unfolding tableOf runningFrom firstFailing every
 foldOutcome f rows = unless (overflow f rows ∷ []) (answer (tableOf f rows))
+
+-- ---- the lists of a sum of k rows that is folded: the rows of the table, and zeros after them
+
+abbrev pub sumsFilled : {K : Type 0} → ℕ → List (K × RowSum) → List Float
+sumsFilled k table = map (λ row. row .1 .coefficient) table ++ replicate (k - length table) zero
+
+abbrev pub countsFilled : {K : Type 0} → ℕ → List (K × RowSum) → List ℕ
+countsFilled k table = map (λ row. row .1 .rows) table ++ replicate (k - length table) 0
+
+abbrev pub wordsFilled : ℕ → List (List ℕ × RowSum) → List ℕ
+wordsFilled k table = joinRows (map keyOf table) ++ replicate (wordLength * k - wordLength * length table) 0
+
+-- the rows that are handed back: none beside a refusal
+abbrev pub handedBack : {A : Type 0} → Outcome (List A) → List A
+handedBack o = orElse itself [] o

@@ -1,9 +1,9 @@
 -- `merging::insert` meets its contract. The loop's invariant: the members from i on stand one place further up.
 use Prim.Native.Nat.{_-_, _≤_}
-use mathlib.Core.Path.{_∙_}
+use mathlib.Core.Path.{_≡_, subst, _∙_}
 use native.Mathlib.Omega.{arith}
 use denote.Ref.{now}
-use lib.ListN.{length, length-set}
+use lib.ListN.{length-set}
 use Rattle.sum_rows.proofs.Inserting.{Shifted, shift-start, shift-next, shift-end}
 use Rattle.sum_rows.proofs.merging.insert.Statement.{statement}
 use Rattle.sum_rows.proofs.merging.insert.Tie as tie
@@ -42,7 +42,7 @@ loop-again : tie.Need-loop-again Inv-loop μ-loop
 loop-again c = 
     let l = c .before .before .loop in
     let s = c .before .before .before in
-    (omega (arith, c .before .loop-test .taken), omega (arith, l .inv .1 .0), shift-next 0 (now (s .args .positions)) (s .args .used) (s .pre .1) (l .positions) (l .i) (omega (arith, c .before .loop-test .taken)) (l .inv .1 .0) (l .inv .1 .1))
+    (omega (arith, c .before .loop-test .taken), omega (arith, l .inv .1), shift-next 0 (now (s .args .positions)) (s .args .used) (s .pre .1) (l .positions) (l .i) (omega (arith, c .before .loop-test .taken)) (l .inv .1) (l .inv .2))
 
 mul-positions-3 : tie.Need-mul-positions-3 Inv-loop μ-loop
 mul-positions-3 c = omega (arith)
@@ -51,10 +51,17 @@ slice-write-positions-2 : tie.Need-slice-write-positions-2 Inv-loop μ-loop
 slice-write-positions-2 c = omega (arith)
 
 same-length : tie.Need-same-length Inv-loop μ-loop
-same-length c = omega (arith)
+same-length c = length-set (c .before .loop .positions) (c .before .before .args .k) (c .before .before .args .row) ∙ c .before .loop .inv .2 .long
 
 returns : tie.Need-returns Inv-loop μ-loop
-returns c = omega (arith)
+returns c =
+    let s = c .before .before in
+    let l = c .before .loop in
+    let at-k : l .i ≡ s .args .k = omega (arith, c .loop-test .left, l .inv .0) in
+    (
+      length-set (l .positions) (s .args .k) (s .args .row) ∙ l .inv .2 .long,
+      shift-end 0 (now (s .args .positions)) (s .args .used) (s .pre .1) (l .positions) (s .args .k) (s .args .row) (s .pre .0) (subst (Shifted (now (s .args .positions)) (l .positions) (s .args .used)) at-k (l .inv .2)),
+    )
 
 pub insert-spec : {M : Type 1} → statement M
 insert-spec =

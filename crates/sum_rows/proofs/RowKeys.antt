@@ -1,0 +1,150 @@
+-- The rows of a sum and their keys: which row stands where, that keys are words' bytes, and that these are ordered.
+-- The fact that carries it: bytes of one length are the same if their bits are (`planeBits-injective`), so neither less means equal.
+use Prim.Native.Nat.{ℕ, zero, suc, _+_, _*_, _<_, _≤_, suc-le-suc}
+use native.Mathlib.Nat.{suc-inj, suc-ne-zero, le-of-suc-le-suc, not-suc-le-zero}
+use native.Mathlib.Omega.{arith}
+use mathlib.Core.Path.{_≡_, refl, sym, _∙_, ap, ap₂}
+use mathlib.Core.Logic.{inl, inr}
+use mathlib.Core.Bool.{Bool, true, false, cond, false≢true}
+use mathlib.Core.List.{List, [], _∷_, _++_, map}
+use lib.ListN.{length, getD, take, drop, length-drop}
+use lib.Seq.{length-take-le, take-suc, drop-drop}
+use lib.Ieee.{Float, nan}
+use Rattle.pauli_word.specs.declared.Ordering.{Ordering}
+use Rattle.pauli_word.specs.declared.Ordering.the-variants.{Less, Same, Greater}
+use Rattle.pauli_word.specs.Limits.{wordLength}
+use Rattle.pauli_word.specs.Word.{lessBits}
+use Rattle.pauli_word.specs.Bytes.{planeBits, Bytes}
+use Rattle.pauli_word.specs.Calls.{orderOfBits}
+use Rattle.pauli_word.proofs.Planes.{planeBits-length, planeBits-injective}
+use Rattle.pauli_word.proofs.Words.{bytes-take, bytes-drop}
+use Rattle.pauli_word.proofs.WordOrder.{order-refl}
+use Rattle.action.specs.Lists.{sameNumbers, Member}
+use Rattle.action.proofs.Lists.{sameNumbers-eq, sameNumbers-refl}
+use Rattle.keyed.specs.Keyed.{Orders, Equality, keyOf}
+use Rattle.row_lists.specs.Rows.{rowAt}
+use Rattle.sum_rows.specs.Rows.{rowsIn, lessBytes}
+
+-- the bytes of a word
+abbrev pub RowBytes : List ℕ → Type 0
+RowBytes b = (length b ≡ wordLength) × Bytes b
+
+-- ---- the order of rows
+
+-- the two tests that an order of bits tells of
+abbrev Tests : Ordering → Bool → Bool → Type 0
+Tests Less s t = s ≡ true
+Tests Same s t = (s ≡ false) × (t ≡ false)
+Tests Greater s t = t ≡ true
+
+order-tests : (xs ys : List Bool) (o : Ordering) → orderOfBits xs ys ≡ o → Tests o (lessBits xs ys) (lessBits ys xs)
+unfolding orderOfBits
+order-tests xs ys o e = rw e at (told (lessBits xs ys) (lessBits ys xs))
+  where
+    told : (s t : Bool) → Tests (cond s Less (cond t Greater Same)) s t
+    told true t = refl
+    told false true = refl
+    told false false = (refl, refl)
+
+module _ (a b : List ℕ) where
+  pub order-less : orderOfBits (planeBits a) (planeBits b) ≡ Less → lessBytes a b ≡ true
+  unfolding lessBytes
+  order-less = order-tests (planeBits a) (planeBits b) Less
+
+  pub order-greater : orderOfBits (planeBits a) (planeBits b) ≡ Greater → lessBytes b a ≡ true
+  unfolding lessBytes
+  order-greater = order-tests (planeBits a) (planeBits b) Greater
+
+  pub order-same : orderOfBits (planeBits a) (planeBits b) ≡ Same → (lessBytes a b ≡ false) × (lessBytes b a ≡ false)
+  unfolding lessBytes
+  order-same = order-tests (planeBits a) (planeBits b) Same
+
+lessBits-trans : (xs ys zs : List Bool) → lessBits xs ys ≡ true → lessBits ys zs ≡ true → lessBits xs zs ≡ true
+unfolding lessBits
+lessBits-trans [] ys zs e f = absurd (false≢true e)
+lessBits-trans (x ∷ xs) [] zs e f = absurd (false≢true e)
+lessBits-trans (x ∷ xs) (y ∷ ys) [] e f = absurd (false≢true f)
+lessBits-trans (false ∷ xs) (false ∷ ys) (false ∷ zs) e f = lessBits-trans xs ys zs e f
+lessBits-trans (false ∷ xs) (y ∷ ys) (true ∷ zs) e f = refl
+lessBits-trans (false ∷ xs) (true ∷ ys) (false ∷ zs) e f = absurd (false≢true f)
+lessBits-trans (true ∷ xs) (false ∷ ys) (z ∷ zs) e f = absurd (false≢true e)
+lessBits-trans (true ∷ xs) (true ∷ ys) (false ∷ zs) e f = absurd (false≢true f)
+lessBits-trans (true ∷ xs) (true ∷ ys) (true ∷ zs) e f = lessBits-trans xs ys zs e f
+
+neither-less : (xs ys : List Bool) → length xs ≡ length ys → lessBits xs ys ≡ false → lessBits ys xs ≡ false → xs ≡ ys
+unfolding lessBits
+neither-less [] [] l e f = refl
+neither-less [] (y ∷ ys) l e f = absurd (suc-ne-zero (length ys) (sym l))
+neither-less (x ∷ xs) [] l e f = absurd (suc-ne-zero (length xs) l)
+neither-less (false ∷ xs) (false ∷ ys) l e f = ap (λ (t : List Bool). false ∷ t) (neither-less xs ys (suc-inj l) e f)
+neither-less (false ∷ xs) (true ∷ ys) l e f = absurd (false≢true (sym e))
+neither-less (true ∷ xs) (false ∷ ys) l e f = absurd (false≢true (sym f))
+neither-less (true ∷ xs) (true ∷ ys) l e f = ap (λ (t : List Bool). true ∷ t) (neither-less xs ys (suc-inj l) e f)
+
+bytes-total : (a b : List ℕ) → RowBytes a → RowBytes b → lessBytes a b ≡ false → lessBytes b a ≡ false → a ≡ b
+unfolding lessBytes
+bytes-total a b pa pb e f =
+    let long : length a ≡ length b = pa .0 ∙ sym (pb .0) in
+    planeBits-injective a b (pa .1) (pb .1) long
+    (neither-less (planeBits a) (planeBits b) (planeBits-length a ∙ ap (λ (k : ℕ). 8 * k) long ∙ sym (planeBits-length b)) e f)
+
+pub byte-orders : Orders RowBytes lessBytes
+unfolding lessBytes
+byte-orders = record {
+  irrefl = λ a. order-same a a (order-refl (planeBits a)) .0;
+  trans = λ a b c. lessBits-trans (planeBits a) (planeBits b) (planeBits c);
+  total = bytes-total;
+}
+
+pub byte-equality : Equality sameNumbers
+byte-equality = record { reflexive = sameNumbers-refl; equal = sameNumbers-eq }
+
+-- ---- rows
+
+row-behind : (words : List ℕ) (i : ℕ) → rowAt (drop wordLength words) i ≡ rowAt words (suc i)
+unfolding rowAt
+row-behind words i =
+    let one : wordLength + wordLength * i ≡ wordLength * suc i = omega arith in
+    ap (take wordLength) (drop-drop (wordLength * i) wordLength words ∙ ap (λ (k : ℕ). drop k words) one)
+
+pub rows-length : (words : List ℕ) (cs : List Float) → length (rowsIn words cs) ≡ length cs
+unfolding rowsIn
+rows-length words [] = refl
+rows-length words (c ∷ cs) = ap suc (rows-length (drop wordLength words) cs)
+
+pub rows-at :
+    (words : List ℕ) (cs : List Float) (i : ℕ) (d : List ℕ × Float) → i < length cs
+    → getD (rowsIn words cs) i d ≡ (rowAt words i, getD cs i nan)
+unfolding rowsIn rowAt
+rows-at words [] i d l = absurd (not-suc-le-zero l)
+rows-at words (c ∷ cs) zero d l = refl
+rows-at words (c ∷ cs) (suc i) d l =
+    rows-at (drop wordLength words) cs i d (le-of-suc-le-suc l) ∙ ap (λ (b : List ℕ). (b, getD cs i nan)) (row-behind words i)
+
+pub rows-next :
+    (words : List ℕ) (cs : List Float) (i : ℕ) → i < length cs
+    → take (suc i) (rowsIn words cs) ≡ take i (rowsIn words cs) ++ ((rowAt words i, getD cs i nan) ∷ [])
+rows-next words cs i l =
+    let row : List ℕ × Float = (rowAt words i, getD cs i nan) in
+    take-suc (rowsIn words cs) i row (rw (rows-length words cs) l)
+    ∙ ap (λ (r : List ℕ × Float). take i (rowsIn words cs) ++ (r ∷ [])) (rows-at words cs i row l)
+
+-- ---- keys
+
+front-bytes : (words : List ℕ) → Bytes words → wordLength ≤ length words → RowBytes (take wordLength words)
+front-bytes words small l = (length-take-le wordLength words l, bytes-take wordLength words small)
+
+pub row-bytes : (words : List ℕ) (i : ℕ) → Bytes words → wordLength * i + wordLength ≤ length words → RowBytes (rowAt words i)
+unfolding rowAt
+row-bytes words i small l =
+    front-bytes (drop (wordLength * i) words) (bytes-drop (wordLength * i) words small) (omega (arith, length-drop (wordLength * i) words))
+
+pub keys-bytes :
+    (words : List ℕ) (cs : List Float) (i : ℕ) → length words ≡ wordLength * length cs → Bytes words
+    → (a : List ℕ) → Member a (map keyOf (take i (rowsIn words cs))) → RowBytes a
+unfolding rowsIn
+keys-bytes words cs zero long small a m = absurd m
+keys-bytes words [] (suc i) long small a m = absurd m
+keys-bytes words (c ∷ cs) (suc i) long small a (inl e) = rw e (front-bytes words small (omega arith))
+keys-bytes words (c ∷ cs) (suc i) long small a (inr m) =
+    keys-bytes (drop wordLength words) cs i (omega (arith, length-drop wordLength words)) (bytes-drop wordLength words small) a m
