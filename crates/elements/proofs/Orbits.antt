@@ -93,42 +93,44 @@ module _ (m i : ℕ) where
   pub part-length : (list : List ℕ) → m * i + m ≤ length list → length (take (m * i + m - m * i) (drop (m * i) list)) ≡ m
   part-length list h = simp (length-take, length-drop) (omega arith)
 
-  stored-next :
+  store-next :
       (front list bytes now : List ℕ) → length front ≡ m * i → now ≡ front ++ drop (m * i) list
       → take (m * i) now ++ (bytes ++ drop (m * i + m - m * i) (drop (m * i) now)) ≡ (front ++ bytes) ++ drop (m * (i + 1)) list
-  stored-next front list bytes now long e =
+  store-next front list bytes now long e =
       let more : m * (i + 1) ≡ m * i + m = omega arith in
       ap₂ (λ (a d : List ℕ). a ++ (bytes ++ drop (m * i + m - m * i) d))
       (ap (take (m * i)) e ∙ take-at front (drop (m * i) list) (m * i) long)
       (ap (drop (m * i)) e ∙ drop-at front (drop (m * i) list) (m * i) long)
       ∙ rw (add-sub-cancel-left (m * i) m, drop-drop, more, append-assoc)
 
--- the first i entries, and the list as it was behind them
-abbrev pub filled : List Generator → Word → List ℕ → ℕ → List ℕ
-filled gs w list i = encodeAll (entries gs w i) ++ drop (wordLength * i) list
+-- the words that f gives below i, and the list as it was behind them
+abbrev pub stored : (ℕ → Word) → List ℕ → ℕ → List ℕ
+stored f list i = encodeAll (map f (below i)) ++ drop (wordLength * i) list
 
-pub filled-start : (gs : List Generator) (w : Word) (list : List ℕ) → list ≡ filled gs w list 0
-unfolding encodeAll below from
-filled-start gs w list = refl
+module _ (f : ℕ → Word) (list : List ℕ) where
+  words-length : (i : ℕ) → length (encodeAll (map f (below i))) ≡ wordLength * i
+  words-length i = encodeAll-length (map f (below i)) ∙ ap (λ (j : ℕ). wordLength * j) (length-map (below i) f ∙ length-below i)
 
--- a list of one entry for each index stays that long
-pub filled-length : (gs : List Generator) (w : Word) (list : List ℕ) (i o : ℕ) → length list ≡ wordLength * o → i ≤ o → length (filled gs w list i) ≡ wordLength * o
-filled-length gs w list i o l h =
-    length-append (encodeAll (entries gs w i)) (drop (wordLength * i) list)
-    ∙ omega (arith, encodeAll-length (entries gs w i), entries-length gs w i, length-drop (wordLength * i) list)
+  pub stored-start : list ≡ stored f list 0
+  unfolding encodeAll below from
+  stored-start = refl
 
--- the next entry stored behind the first i, in the part of the list that it takes
-pub filled-next : (gs : List Generator) (w : Word) (list now bytes : List ℕ) (i : ℕ) → now ≡ filled gs w list i → bytes ≡ bytesOf (reach gs i w)
-    → take (wordLength * i) now ++ (bytes ++ drop (wordLength * i + wordLength - wordLength * i) (drop (wordLength * i) now)) ≡ filled gs w list (i + 1)
-unfolding encodeAll
-filled-next gs w list now bytes i e b =
-    let more : encodeAll (entries gs w i) ++ bytes ≡ encodeAll (entries gs w (i + 1)) = rw (b, entries-next, encodeAll-append, append-nil) in
-    stored-next wordLength i (encodeAll (entries gs w i)) list bytes now
-    (encodeAll-length (entries gs w i) ∙ ap (λ (j : ℕ). wordLength * j) (entries-length gs w i)) e
-    ∙ ap (λ (l : List ℕ). l ++ drop (wordLength * (i + 1)) list) more
+  -- a list of a word for each of o numbers stays that long
+  pub stored-length : (i o : ℕ) → length list ≡ wordLength * o → i ≤ o → length (stored f list i) ≡ wordLength * o
+  stored-length i o l h =
+      length-append (encodeAll (map f (below i))) (drop (wordLength * i) list) ∙ omega (arith, words-length i, length-drop (wordLength * i) list)
 
-pub filled-end : (gs : List Generator) (w : Word) (list : List ℕ) (i o : ℕ) → o ≡ orderOf gs → length list ≡ wordLength * o → o ≤ i → i ≤ o
-    → filled gs w list i ≡ encodeAll (orbitList gs w)
-filled-end gs w list i o eo l h k =
-    let e : i ≡ orderOf gs = omega arith in
-    rw (drop-of-length-le list {i = wordLength * i} (omega arith), append-nil) (ap encodeAll (ap (entries gs w) e ∙ entries-all gs w))
+  -- the next word stored behind the first i, in the part of the list that it takes
+  pub stored-next : (now bytes : List ℕ) (i : ℕ) → now ≡ stored f list i → bytes ≡ bytesOf (f i)
+      → take (wordLength * i) now ++ (bytes ++ drop (wordLength * i + wordLength - wordLength * i) (drop (wordLength * i) now)) ≡ stored f list (i + 1)
+  unfolding encodeAll
+  stored-next now bytes i e b =
+      let more : encodeAll (map f (below i)) ++ bytes ≡ encodeAll (map f (below (i + 1))) =
+      rw (b, below-next, map-append f (below i) (i ∷ []), encodeAll-append, append-nil) in
+      store-next wordLength i (encodeAll (map f (below i))) list bytes now (words-length i) e
+      ∙ ap (λ (l : List ℕ). l ++ drop (wordLength * (i + 1)) list) more
+
+  pub stored-end : (i o : ℕ) → length list ≡ wordLength * o → o ≤ i → i ≤ o → stored f list i ≡ encodeAll (map f (below o))
+  stored-end i o l h k =
+      let e : i ≡ o = omega arith in
+      rw (drop-of-length-le list {i = wordLength * i} (omega arith), append-nil) (ap (λ (j : ℕ). encodeAll (map f (below j))) e)

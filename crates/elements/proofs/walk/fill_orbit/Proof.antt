@@ -8,13 +8,13 @@ use Rattle.pauli_word.specs.Limits.{wordLength}
 use Rattle.pauli_word.specs.Bytes.{AcceptedWord, lettersIn, bytesOf}
 use Rattle.pauli_word.proofs.Words.{decode-length}
 use Rattle.action.specs.Orbit.{reach}
-use Rattle.elements.specs.HeldGroup.{generatorsIn}
-use Rattle.elements.proofs.Orbits.{walk-start, walk-accepted, walk-next, filled, filled-start, filled-length, part-length, filled-next, filled-end}
+use Rattle.elements.specs.HeldGroup.{generatorsIn, encodeAll}
+use Rattle.elements.proofs.Orbits.{entries, entries-all, walk-start, walk-accepted, walk-next, part-length, stored, stored-start, stored-length, stored-next, stored-end}
 use Rattle.elements.proofs.walk.fill_orbit.Statement.{statement}
 use Rattle.elements.proofs.walk.fill_orbit.Tie as tie
 
 abbrev Inv-loop : tie.InvT-loop
-Inv-loop targets orders generators sites order word list₀ here₀ i₀ list here i = (i ≤ order) × (here ≡ bytesOf (reach (generatorsIn generators sites targets orders) i (lettersIn sites word))) × (list ≡ filled (generatorsIn generators sites targets orders) (lettersIn sites word) list₀ i)
+Inv-loop targets orders generators sites order word list₀ here₀ i₀ list here i = (i ≤ order) × (here ≡ bytesOf (reach (generatorsIn generators sites targets orders) i (lettersIn sites word))) × (list ≡ stored (λ j. reach (generatorsIn generators sites targets orders) j (lettersIn sites word)) list₀ i)
 
 abbrev μ-loop : tie.MeasureT-loop
 μ-loop targets orders generators sites order word list₀ here₀ i₀ list here i = order - i
@@ -33,7 +33,7 @@ list-length c =
     let l = c .loop in
     let gs = generatorsIn (s .args .generators) (s .args .sites) (now (s .args .targets)) (now (s .args .orders)) in
     let w = lettersIn (s .args .sites) (now (s .args .word)) in
-    ap length (l .inv .2) ∙ filled-length gs w (now (s .args .list)) (l .i) (s .args .order) (s .pre .1 .1 .1) (l .inv .0)
+    ap length (l .inv .2) ∙ stored-length (λ j. reach gs j w) (now (s .args .list)) (l .i) (s .args .order) (s .pre .1 .1 .1) (l .inv .0)
 
 slice-aggregate-copy : tie.Need-slice-aggregate-copy Inv-loop μ-loop
 slice-aggregate-copy c = refl
@@ -46,7 +46,7 @@ loop-holds c =
     let s = c .before .before .before .before .before .before .before in
     let gs = generatorsIn (s .args .generators) (s .args .sites) (now (s .args .targets)) (now (s .args .orders)) in
     let w = lettersIn (s .args .sites) (now (s .args .word)) in
-    (omega arith, c .before .copy .ensures ∙ walk-start (s .pre .1 .0) gs, filled-start gs w (now (s .args .list)))
+    (omega arith, c .before .copy .ensures ∙ walk-start (s .pre .1 .0) gs, stored-start (λ j. reach gs j w) (now (s .args .list)))
 
 mul-at : tie.Need-mul-at Inv-loop μ-loop
 mul-at c =
@@ -98,7 +98,7 @@ loop-again c =
     let copied = c .before .before .before .before .before .copy2 in (
       omega (arith, c .before .before .before .before .before .before .before .before .loop-test .taken),
       walk-next (s .pre .0) w (decode-length (s .pre .1 .0)) (l .i) (l .inv .1) (c .before .advance .ensures),
-      filled-next gs w (now (s .args .list)) (l .list) (copied .last .1 .0) (l .i) (l .inv .2) (copied .ensures ∙ l .inv .1),
+      stored-next (λ j. reach gs j w) (now (s .args .list)) (l .list) (copied .last .1 .0) (l .i) (l .inv .2) (copied .ensures ∙ l .inv .1),
     )
 
 same-length : tie.Need-same-length Inv-loop μ-loop
@@ -110,7 +110,9 @@ returns c =
     let l = c .before .loop in
     let gs = generatorsIn (s .args .generators) (s .args .sites) (now (s .args .targets)) (now (s .args .orders)) in
     let w = lettersIn (s .args .sites) (now (s .args .word)) in
-    l .inv .2 ∙ filled-end gs w (now (s .args .list)) (l .i) (s .args .order) (s .pre .1 .1 .0) (s .pre .1 .1 .1) (c .loop-test .left) (l .inv .0)
+    l .inv .2
+    ∙ stored-end (λ j. reach gs j w) (now (s .args .list)) (l .i) (s .args .order) (s .pre .1 .1 .1) (c .loop-test .left) (l .inv .0)
+    ∙ ap encodeAll (ap (entries gs w) (s .pre .1 .1 .0) ∙ entries-all gs w)
 
 pub fill-orbit-spec : {M : Type 1} → statement M
 fill-orbit-spec =
