@@ -23,12 +23,12 @@ module _ {A B : Type 0} where
   map-cong g h [] e = refl
   map-cong g h (a ∷ xs) e = ap₂ _∷_ (e a (inl refl)) (map-cong g h xs (λ b m. e b (inr m)))
 
-  getD-map : (g : A → B) (xs : List A) (i : ℕ) (d : B) (c : A) → i < length xs → getD (map g xs) i d ≡ g (getD xs i c)
+  pub getD-map : (g : A → B) (xs : List A) (i : ℕ) (d : B) (c : A) → i < length xs → getD (map g xs) i d ≡ g (getD xs i c)
   getD-map g [] i d c l = absurd (not-suc-le-zero l)
   getD-map g (a ∷ xs) zero d c l = refl
   getD-map g (a ∷ xs) (suc i) d c l = getD-map g xs i d c (le-of-suc-le-suc l)
 
-  map-insertAt : (g : A → B) (i : ℕ) (a : A) (xs : List A) → map g (insertAt i a xs) ≡ insertAt i (g a) (map g xs)
+  pub map-insertAt : (g : A → B) (i : ℕ) (a : A) (xs : List A) → map g (insertAt i a xs) ≡ insertAt i (g a) (map g xs)
   map-insertAt g zero a xs = refl
   map-insertAt g (suc i) a [] = refl
   map-insertAt g (suc i) a (b ∷ xs) = ap (λ (l : List B). g b ∷ l) (map-insertAt g i a xs)

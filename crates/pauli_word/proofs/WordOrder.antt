@@ -69,7 +69,7 @@ lessBits-irrefl [] = refl
 lessBits-irrefl (false ∷ xs) = lessBits-irrefl xs
 lessBits-irrefl (true ∷ xs) = lessBits-irrefl xs
 
-lessBits-trans : (xs ys zs : List Bool) → lessBits xs ys ≡ true → lessBits ys zs ≡ true → lessBits xs zs ≡ true
+pub lessBits-trans : (xs ys zs : List Bool) → lessBits xs ys ≡ true → lessBits ys zs ≡ true → lessBits xs zs ≡ true
 unfolding lessBits
 lessBits-trans [] ys zs e f = absurd (false≢true e)
 lessBits-trans (x ∷ xs) [] zs e f = absurd (false≢true e)
@@ -87,7 +87,7 @@ ahead b (inl p) = inl p
 ahead b (inr (inl e)) = inr (inl (ap (λ (t : List Bool). b ∷ t) e))
 ahead b (inr (inr q)) = inr (inr q)
 
-lessBits-total : (xs ys : List Bool) → length xs ≡ length ys → (lessBits xs ys ≡ true) ⊎ ((xs ≡ ys) ⊎ (lessBits ys xs ≡ true))
+pub lessBits-total : (xs ys : List Bool) → length xs ≡ length ys → (lessBits xs ys ≡ true) ⊎ ((xs ≡ ys) ⊎ (lessBits ys xs ≡ true))
 unfolding lessBits
 lessBits-total [] [] l = inr (inl refl)
 lessBits-total [] (y ∷ ys) l = absurd (suc-ne-zero (length ys) (sym l))

@@ -38,12 +38,12 @@ module _ {A : Type 0} (d : A) (old : List A) (used : ℕ) (room : used < length 
         long = length-set xs (suc j) (getD xs j d) ∙ s .long;
         front = take-set-le j xs (suc j) (getD xs j d) (omega arith) ∙ below-front xs j (s .front);
         behind =
-          ap₂ take more (drop-cons (set xs (suc j) (getD xs j d)) (suc j) d in-xs)
-          ∙ ap₂ (λ (a : A) (l : List A). a ∷ take (used - suc j) l)
-          (getD-set-same xs (suc j) (getD xs j d) d (omega (arith, s .long)) ∙ same-before xs (suc j) j (omega arith) (s .front))
-          (drop-set-lt (suc (suc j)) xs (suc j) (getD xs j d) (omega arith))
-          ∙ ap (λ (l : List A). getD old j d ∷ l) (s .behind)
-          ∙ sym (ap₂ take more (drop-cons old j d (omega arith)));
+            ap₂ take more (drop-cons (set xs (suc j) (getD xs j d)) (suc j) d in-xs)
+            ∙ ap₂ (λ (a : A) (l : List A). a ∷ take (used - suc j) l)
+            (getD-set-same xs (suc j) (getD xs j d) d (omega (arith, s .long)) ∙ same-before xs (suc j) j (omega arith) (s .front))
+            (drop-set-lt (suc (suc j)) xs (suc j) (getD xs j d) (omega arith))
+            ∙ ap (λ (l : List A). getD old j d ∷ l) (s .behind)
+            ∙ sym (ap₂ take more (drop-cons old j d (omega arith)));
       }
 
   -- one member moved up

@@ -1,6 +1,8 @@
 -- Laws of sums in lists.
 pub mod Finite
-pub mod Inserting
 pub mod RowOrder
 pub mod RowKeys
 pub mod Searching
+pub mod Inserting
+pub mod RowMerging
+pub mod Folding

@@ -1,10 +1,10 @@
 -- The rows of a sum and their keys: which row stands where, that keys are words' bytes, and that these are ordered.
 -- The fact that carries it: bytes of one length are the same if their bits are (`planeBits-injective`), so neither less means equal.
-use Prim.Native.Nat.{ℕ, zero, suc, _+_, _*_, _<_, _≤_, suc-le-suc}
+use Prim.Native.Nat.{ℕ, zero, suc, _+_, _*_, _<_, _≤_}
 use native.Mathlib.Nat.{suc-inj, suc-ne-zero, le-of-suc-le-suc, not-suc-le-zero}
 use native.Mathlib.Omega.{arith}
-use mathlib.Core.Path.{_≡_, refl, sym, _∙_, ap, ap₂}
-use mathlib.Core.Logic.{inl, inr}
+use mathlib.Core.Path.{_≡_, refl, sym, _∙_, ap}
+use mathlib.Core.Logic.{_⊎_, inl, inr}
 use mathlib.Core.Bool.{Bool, true, false, cond, false≢true}
 use mathlib.Core.List.{List, [], _∷_, _++_, map}
 use lib.ListN.{length, getD, take, drop, length-drop}
@@ -18,7 +18,7 @@ use Rattle.pauli_word.specs.Bytes.{planeBits, Bytes}
 use Rattle.pauli_word.specs.Calls.{orderOfBits}
 use Rattle.pauli_word.proofs.Planes.{planeBits-length, planeBits-injective}
 use Rattle.pauli_word.proofs.Words.{bytes-take, bytes-drop}
-use Rattle.pauli_word.proofs.WordOrder.{order-refl}
+use Rattle.pauli_word.proofs.WordOrder.{order-refl, lessBits-trans, lessBits-total}
 use Rattle.action.specs.Lists.{sameNumbers, Member}
 use Rattle.action.proofs.Lists.{sameNumbers-eq, sameNumbers-refl}
 use Rattle.keyed.specs.Keyed.{Orders, Equality, keyOf}
@@ -59,27 +59,13 @@ module _ (a b : List ℕ) where
   unfolding lessBytes
   order-same = order-tests (planeBits a) (planeBits b) Same
 
-lessBits-trans : (xs ys zs : List Bool) → lessBits xs ys ≡ true → lessBits ys zs ≡ true → lessBits xs zs ≡ true
-unfolding lessBits
-lessBits-trans [] ys zs e f = absurd (false≢true e)
-lessBits-trans (x ∷ xs) [] zs e f = absurd (false≢true e)
-lessBits-trans (x ∷ xs) (y ∷ ys) [] e f = absurd (false≢true f)
-lessBits-trans (false ∷ xs) (false ∷ ys) (false ∷ zs) e f = lessBits-trans xs ys zs e f
-lessBits-trans (false ∷ xs) (y ∷ ys) (true ∷ zs) e f = refl
-lessBits-trans (false ∷ xs) (true ∷ ys) (false ∷ zs) e f = absurd (false≢true f)
-lessBits-trans (true ∷ xs) (false ∷ ys) (z ∷ zs) e f = absurd (false≢true e)
-lessBits-trans (true ∷ xs) (true ∷ ys) (false ∷ zs) e f = absurd (false≢true f)
-lessBits-trans (true ∷ xs) (true ∷ ys) (true ∷ zs) e f = lessBits-trans xs ys zs e f
-
 neither-less : (xs ys : List Bool) → length xs ≡ length ys → lessBits xs ys ≡ false → lessBits ys xs ≡ false → xs ≡ ys
-unfolding lessBits
-neither-less [] [] l e f = refl
-neither-less [] (y ∷ ys) l e f = absurd (suc-ne-zero (length ys) (sym l))
-neither-less (x ∷ xs) [] l e f = absurd (suc-ne-zero (length xs) l)
-neither-less (false ∷ xs) (false ∷ ys) l e f = ap (λ (t : List Bool). false ∷ t) (neither-less xs ys (suc-inj l) e f)
-neither-less (false ∷ xs) (true ∷ ys) l e f = absurd (false≢true (sym e))
-neither-less (true ∷ xs) (false ∷ ys) l e f = absurd (false≢true (sym f))
-neither-less (true ∷ xs) (true ∷ ys) l e f = ap (λ (t : List Bool). true ∷ t) (neither-less xs ys (suc-inj l) e f)
+neither-less xs ys l e f = go (lessBits-total xs ys l)
+  where
+    go : (lessBits xs ys ≡ true) ⊎ ((xs ≡ ys) ⊎ (lessBits ys xs ≡ true)) → xs ≡ ys
+    go (inl t) = absurd (false≢true (sym e ∙ t))
+    go (inr (inl same)) = same
+    go (inr (inr t)) = absurd (false≢true (sym f ∙ t))
 
 bytes-total : (a b : List ℕ) → RowBytes a → RowBytes b → lessBytes a b ≡ false → lessBytes b a ≡ false → a ≡ b
 unfolding lessBytes

@@ -1,8 +1,7 @@
 -- The search by halves among the rows at positions: what its loop knows, by the words of the rows (`Between` of keyed).
-use Prim.Native.Nat.{ℕ, zero, suc, _+_, _*_, _≤_, _<_}
+use Prim.Native.Nat.{ℕ, _+_, _≤_, _<_}
 use mathlib.Core.Path.{_≡_, refl, sym, ap, subst, _∙_}
-use mathlib.Core.List.{List, [], _∷_, map}
-use native.Mathlib.Nat.{not-suc-le-zero}
+use mathlib.Core.List.{List, [], map}
 use native.Mathlib.Omega.{arith}
 use lib.ListN.{length, getD, take, length-map}
 use lib.Seq.{length-take-le, getD-take}
@@ -11,16 +10,11 @@ use Rattle.pauli_word.specs.Bytes.{planeBits}
 use Rattle.pauli_word.specs.Calls.{orderOfBits}
 use Rattle.keyed.specs.Keyed.{slotOf, found, free}
 use Rattle.keyed.proofs.Rising.{Between, between-start, between-up, between-down, between-found, between-free}
+use Rattle.keyed.proofs.Tables.{getD-map}
 use Rattle.row_lists.specs.Rows.{rowAt}
 use Rattle.sum_rows.specs.Rows.{lessBytes}
 use Rattle.sum_rows.specs.Held.{Places}
 use Rattle.sum_rows.proofs.RowKeys.{RowBytes, byte-orders, order-less, order-greater, order-same, row-bytes}
-
--- a member of a mapped list
-pub getD-map-in : {A B : Type 0} (f : A → B) (xs : List A) (i : ℕ) (d : A) (e : B) → i < length xs → getD (map f xs) i e ≡ f (getD xs i d)
-getD-map-in f [] i d e h = absurd (not-suc-le-zero h)
-getD-map-in f (x ∷ xs) zero d e h = refl
-getD-map-in f (x ∷ xs) (suc i) d e h = getD-map-in f xs i d e (omega arith)
 
 -- the words of the rows at the first `used` positions
 abbrev pub wordsAt : List ℕ → List ℕ → ℕ → List (List ℕ)
@@ -36,7 +30,7 @@ module _ {words positions : List ℕ} {used row : ℕ} (p : Places words positio
 
   word-at : (k : ℕ) → k < used → getD (wordsAt words positions used) k [] ≡ rowAt words (getD positions k 0)
   word-at k h =
-      getD-map-in (rowAt words) (take used positions) k 0 [] (omega (arith, length-take-le used positions (p .enough)))
+      getD-map (rowAt words) (take used positions) k [] 0 (omega (arith, length-take-le used positions (p .enough)))
       ∙ ap (rowAt words) (getD-take used positions k 0 h)
 
   pub search-start : Searching words positions used row 0 used

@@ -9,7 +9,8 @@ ghost use lib.ListN.{length};
 ghost use Rattle.outcome.specs.Outcome.{outcomeOfNumber, onAnswer};
 ghost use Rattle.pauli_word.specs.Limits.{wordLength};
 ghost use Rattle.row_lists.specs.Rows.{maxRows};
-ghost use Rattle.sum_rows.specs.Sums.{finite, addRow, noRows};
+ghost use Rattle.sum_rows.specs.Sums.{finite, addRow, noRows, foldOutcome, wordsFilled, sumsFilled, countsFilled, handedBack};
+ghost use Rattle.sum_rows.specs.Rows.{rowsIn, byteSums};
 
 // What a word's rows come to: the running sum of their coefficients, and how many they are.
 pub struct RowSum {
@@ -45,9 +46,5 @@ pub fn is_finite(x: f64) -> bool
     ensures { λ r. ⌜ r ≡ finite x ⌝ }
 {
     let infinity = 1.0 / 0.0;
-    if -infinity < x {
-        x < infinity
-    } else {
-        false
-    }
+    if -infinity < x { x < infinity } else { false }
 }

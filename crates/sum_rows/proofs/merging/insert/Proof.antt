@@ -39,7 +39,7 @@ loop-less : tie.Need-loop-less Inv-loop μ-loop
 loop-less c = omega (arith)
 
 loop-again : tie.Need-loop-again Inv-loop μ-loop
-loop-again c = 
+loop-again c =
     let l = c .before .before .loop in
     let s = c .before .before .before in
     (omega (arith, c .before .loop-test .taken), omega (arith, l .inv .1), shift-next 0 (now (s .args .positions)) (s .args .used) (s .pre .1) (l .positions) (l .i) (omega (arith, c .before .loop-test .taken)) (l .inv .1) (l .inv .2))
@@ -57,8 +57,7 @@ returns : tie.Need-returns Inv-loop μ-loop
 returns c =
     let s = c .before .before in
     let l = c .before .loop in
-    let at-k : l .i ≡ s .args .k = omega (arith, c .loop-test .left, l .inv .0) in
-    (
+    let at-k : l .i ≡ s .args .k = omega (arith, c .loop-test .left, l .inv .0) in (
       length-set (l .positions) (s .args .k) (s .args .row) ∙ l .inv .2 .long,
       shift-end 0 (now (s .args .positions)) (s .args .used) (s .pre .1) (l .positions) (s .args .k) (s .args .row) (s .pre .0) (subst (Shifted (now (s .args .positions)) (l .positions) (s .args .used)) at-k (l .inv .2)),
     )

@@ -57,7 +57,7 @@ cast-at : tie.Need-cast-at Inv-loop μ-loop
 cast-at c = omega (arith, c .shared-slice-known3 .given (middle (c .before .before .loop .low) (c .before .before .loop .high)))
 
 compare-rows-requires : tie.Need-compare-rows-requires Inv-loop μ-loop
-compare-rows-requires c κs = 
+compare-rows-requires c κs =
     let s = c .before .before .before .before .before in
     (s .pre .all (middle (c .before .before .loop .low) (c .before .before .loop .high)) (used-above (c .before)), s .pre .inside)
 
@@ -71,7 +71,7 @@ loop-less : tie.Need-loop-less Inv-loop μ-loop
 loop-less c = omega (arith, c .before .before .before .before .loop-test .taken)
 
 loop-again : tie.Need-loop-again Inv-loop μ-loop
-loop-again c = 
+loop-again c =
     let k = c .before .before .before .before in
     search-up (k .before .before .before .before .pre) (k .before .loop .inv) (not-before k) (not-after k)
     (sym (c .before .before .compare-rows .ensures) ∙ c .enum-told .given .1)
@@ -83,7 +83,7 @@ loop-less-2 : tie.Need-loop-less-2 Inv-loop μ-loop
 loop-less-2 c = omega (arith, c .before .before .before .before .loop-test .taken)
 
 loop-again-2 : tie.Need-loop-again-2 Inv-loop μ-loop
-loop-again-2 c = 
+loop-again-2 c =
     let k = c .before .before .before .before in
     search-down (k .before .before .before .before .pre) (k .before .loop .inv) (not-before k) (not-after k)
     (sym (c .before .before .compare-rows .ensures) ∙ c .enum-told2 .given .1)
@@ -92,7 +92,7 @@ enum-told-3 : tie.Need-enum-told-3 Inv-loop μ-loop
 enum-told-3 c = search needs
 
 returns : tie.Need-returns Inv-loop μ-loop
-returns c = 
+returns c =
     let k = c .before .before .before .before in
     sym (search-found (k .before .before .before .before .pre) (k .before .loop .inv) (not-before k) (not-after k)
     (sym (c .before .before .compare-rows .ensures) ∙ c .enum-told3 .given .1))
