@@ -1,1 +1,2 @@
 -- Laws of rows in lists.
+pub mod Fills
