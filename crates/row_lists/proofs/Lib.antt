@@ -1,2 +1,4 @@
 -- Laws of rows in lists.
 pub mod Fills
+pub mod Rows
+pub mod Arranging
