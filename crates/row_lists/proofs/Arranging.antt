@@ -5,15 +5,15 @@ use mathlib.Core.Path.{_≡_, refl, sym, ap, _∙_}
 use mathlib.Core.Logic.{_≢_}
 use mathlib.Core.Bool.{cond, true, false, Bool}
 use mathlib.Core.List.{List}
-use native.Mathlib.Decide.{ℕ-discrete}
+use native.Mathlib.Decide.{ℕ-discrete, decLt}
 use native.Mathlib.Nat.{eq-or-lt-of-le}
 use native.Mathlib.Omega.{arith}
 use borrow.Author.Tests.{eq-eqb, ne-eqb}
 use lib.Dec.{eqb}
 use lib.ListN.{length, getD, set, length-set}
-use lib.Seq.{getD-set-same, getD-set-other}
+use lib.Seq.{getD-set-same, getD-set-other, set-out}
 use Rattle.row_lists.specs.Rows.{maxRows}
-use Rattle.row_lists.specs.Arranging.{Owned, toldPositions, toldOwners}
+use Rattle.row_lists.specs.Arranging.{Positions, Owned, toldPositions, toldOwners}
 
 -- ---- told or not
 
@@ -35,3 +35,47 @@ module _ (positions owners : List ℕ) (k from : ℕ) where
     pub kept-owners : owners ≡ toldOwners positions owners k from
     unfolding toldOwners
     kept-owners = rw (ne-eqb (getD positions (getD owners k 0) 0) k n)
+
+-- ---- owners written down, place by place
+
+-- the positions of the places before k have their owners
+pub record Owning (positions owners : List ℕ) (k : ℕ) : Type 0 where
+  pub places : length owners ≡ maxRows
+  pub small : (p : ℕ) → getD owners p 0 < maxRows
+  pub owner : (j : ℕ) → j < k → getD owners (getD positions j 0) 0 ≡ j
+
+pub owning-start : {positions owners : List ℕ} → length owners ≡ maxRows → ((p : ℕ) → getD owners p 0 < maxRows) → Owning positions owners 0
+owning-start long small = record { places = long; small = small; owner = λ j h. omega arith }
+
+-- small members stay small when a small one is stored
+set-small : (xs : List ℕ) {m : ℕ} → ((p : ℕ) → getD xs p 0 < m) → (at v : ℕ) → v < m → (p : ℕ) → getD (set xs at v) p 0 < m
+set-small xs {m} small at v h p = go (ℕ-discrete p at)
+  where
+    go : Dec (p ≡ at) → getD (set xs at v) p 0 < m
+    go (no n) = rw (getD-set-other xs at p v 0 n) (small p)
+    go (yes e) = within (decLt at (length xs))
+      where
+        within : Dec (at < length xs) → getD (set xs at v) p 0 < m
+        within (yes l) = rw (e, getD-set-same xs at v 0 l) h
+        within (no l) = rw (set-out xs at v (omega arith)) (small p)
+
+pub owning-next : {positions owners : List ℕ} {used k : ℕ} → Positions positions used maxRows → k < used → Owning positions owners k
+    → Owning positions (set owners (getD positions k 0) k) (k + 1)
+owning-next {positions} {owners} {used} {k} ok h w =
+    record {
+      places = length-set owners (getD positions k 0) k ∙ w .places;
+      small = set-small owners (w .small) (getD positions k 0) k (omega (arith, ok .enough));
+      owner = λ j l. step j l (ℕ-discrete j k)
+    }
+  where
+    step : (j : ℕ) → j < k + 1 → Dec (j ≡ k) → getD (set owners (getD positions k 0) k) (getD positions j 0) 0 ≡ j
+    step j l (yes e) =
+        ap (λ (i : ℕ). getD (set owners (getD positions k 0) k) (getD positions i 0) 0) e
+        ∙ getD-set-same owners (getD positions k 0) k 0 (omega (arith, ok .inside k h, w .places))
+        ∙ sym e
+    step j l (no n) =
+        getD-set-other owners (getD positions k 0) (getD positions j 0) k 0 (λ e. n (ok .apart j k (omega arith) h e))
+        ∙ w .owner j (omega arith)
+
+pub owning-end : {positions owners : List ℕ} {k used : ℕ} → used ≤ k → Owning positions owners k → Owned positions owners 0 used
+owning-end h w = record { places = w .places; small = w .small; owner = λ j l m. w .owner j (omega arith) }

@@ -20,6 +20,7 @@ pub const MAX_ROWS: usize = 4096;
 pub fn own(positions: &[u16], used: usize, owners: &mut [u16])
     requires { ⌜ Positions (now positions) used maxRows ⌝ }
     requires { ⌜ length (now owners) ≡ maxRows ⌝ }
+    requires { ⌜ ((p : ℕ) → getD (now owners) p 0 < maxRows) ⌝ }
     ensures { λ _. ⌜ Owned (now (positions .entry)) (now (owners .exit)) 0 used ⌝ }
 {
     let mut k = 0;

@@ -1,0 +1,47 @@
+-- `exchange::swap_words` meets its contract.
+use borrow.Author.Needs.{needs}
+use Rattle.row_lists.specs.Rows.{rowsSwapped}
+use Rattle.row_lists.proofs.exchange.swap_words.Statement.{statement}
+use Rattle.row_lists.proofs.exchange.swap_words.Tie as tie
+use Rattle.row_lists.proofs.exchange.swap_words.Reads as reads
+use Rattle.row_lists.proofs.exchange.swap_words.Lts as lts
+use Rattle.row_lists.proofs.exchange.put_row.Reads as put-row-reads
+use Rattle.row_lists.proofs.exchange.row_of.Reads as row-of-reads
+
+row-of-requires : tie.Need-row-of-requires
+row-of-requires c κs = search needs
+
+row-of-requires-2 : tie.Need-row-of-requires-2
+row-of-requires-2 c κs = search needs
+
+slice-aggregate-put-row : tie.Need-slice-aggregate-put-row
+slice-aggregate-put-row c = search needs
+
+put-row-requires : tie.Need-put-row-requires
+put-row-requires c κs = search needs
+
+slice-aggregate-put-row-2 : tie.Need-slice-aggregate-put-row-2
+slice-aggregate-put-row-2 c = search needs
+
+put-row-requires-2 : tie.Need-put-row-requires-2
+put-row-requires-2 c κs = search needs
+
+same-length : tie.Need-same-length
+same-length c = search needs
+
+returns : tie.Need-returns
+unfolding rowsSwapped
+returns c = cc
+
+pub swap-words-spec : {M : Type 1} → statement M
+swap-words-spec =
+    tie.close
+    (tie.spec
+    row-of-requires
+    row-of-requires-2
+    slice-aggregate-put-row
+    put-row-requires
+    slice-aggregate-put-row-2
+    put-row-requires-2
+    same-length
+    returns)
