@@ -79,3 +79,78 @@ owning-next {positions} {owners} {used} {k} ok h w =
 
 pub owning-end : {positions owners : List ℕ} {k used : ℕ} → used ≤ k → Owning positions owners k → Owned positions owners 0 used
 owning-end h w = record { places = w .places; small = w .small; owner = λ j l m. w .owner j (omega arith) }
+
+-- ---- the row for place k exchanged with the one that stands there
+
+-- the places from k on wait for rows at k or after it
+pub record Waiting (positions owners : List ℕ) (k used rows : ℕ) : Type 0 where
+  pub places : length positions ≡ maxRows
+  pub few : rows ≤ maxRows
+  pub enough : used ≤ rows
+  pub later : (j : ℕ) → k ≤ j → j < used → k ≤ getD positions j 0
+  pub inside : (j : ℕ) → k ≤ j → j < used → getD positions j 0 < rows
+  pub owned : Owned positions owners k used
+
+pub waiting-start : {positions owners : List ℕ} {used rows : ℕ} → Positions positions used rows → Owned positions owners 0 used → Waiting positions owners 0 used rows
+waiting-start ok o =
+    record {
+      places = ok .places;
+      few = ok .few;
+      enough = ok .enough;
+      later = λ j h l. omega arith;
+      inside = λ j h l. ok .inside j l;
+      owned = o
+    }
+
+-- what a place j after k waits for then: the row that stood at k and is at `from` now, or the row that it waited for, which has not moved
+data Told (positions owners positions′ owners′ : List ℕ) (k from j : ℕ) : Type 0 where
+  moved : getD positions j 0 ≡ k → k < from → getD positions′ j 0 ≡ from → getD owners′ from 0 ≡ j → Told positions owners positions′ owners′ k from j
+  stays : k < getD positions j 0 → getD positions j 0 ≢ from → getD positions′ j 0 ≡ getD positions j 0 → getD owners′ (getD positions j 0) 0 ≡ j
+      → Told positions owners positions′ owners′ k from j
+
+module _ {positions owners : List ℕ} {k used rows : ℕ} (w : Waiting positions owners k used rows) (now : k < used) where
+  abbrev from : ℕ
+  from = getD positions k 0
+
+  abbrev owner : ℕ
+  owner = getD owners k 0
+
+  from-owner : getD owners from 0 ≡ k
+  from-owner = w .owned .owner k (omega arith) now
+
+  from-inside : from < maxRows
+  from-inside = omega (arith, w .inside k (omega arith) now, w .few)
+
+  told : (j : ℕ) → k < j → j < used
+      → Told positions owners (toldPositions positions owners k from) (toldOwners positions owners k from) k from j
+  told j h l = go (ℕ-discrete (getD positions j 0) k) (ℕ-discrete (getD positions owner 0) k)
+    where
+      mine : getD owners (getD positions j 0) 0 ≡ j
+      mine = w .owned .owner j (omega arith) l
+
+      apart : getD positions j 0 ≢ from
+      apart e = omega (arith, ap (λ (p : ℕ). getD owners p 0) e, mine, from-owner)
+
+      go : Dec (getD positions j 0 ≡ k) → Dec (getD positions owner 0 ≡ k)
+          → Told positions owners (toldPositions positions owners k from) (toldOwners positions owners k from) k from j
+      go (yes e) _ =
+          let o : owner ≡ j = ap (λ (p : ℕ). getD owners p 0) (sym e) ∙ mine in
+          let t : getD positions owner 0 ≡ k = ap (λ (i : ℕ). getD positions i 0) o ∙ e in
+          moved e (omega (arith, w .later k (omega arith) now, apart))
+          (ap (λ (ps : List ℕ). getD ps j 0) (sym (told-positions positions owners k from t))
+          ∙ ap (λ (i : ℕ). getD (set positions i from) j 0) o
+          ∙ getD-set-same positions j from 0 (omega (arith, w .places, w .few, w .enough)))
+          (ap (λ (os : List ℕ). getD os from 0) (sym (told-owners positions owners k from t))
+          ∙ getD-set-same owners from owner 0 (omega (arith, from-inside, w .owned .places))
+          ∙ o)
+      go (no n) (yes t) =
+          stays (omega (arith, w .later j (omega arith) l)) apart
+          (ap (λ (ps : List ℕ). getD ps j 0) (sym (told-positions positions owners k from t))
+          ∙ getD-set-other positions owner j from 0 (λ e. n (ap (λ (i : ℕ). getD positions i 0) e ∙ t)))
+          (ap (λ (os : List ℕ). getD os (getD positions j 0) 0) (sym (told-owners positions owners k from t))
+          ∙ getD-set-other owners from (getD positions j 0) owner 0 apart
+          ∙ mine)
+      go (no n) (no t) =
+          stays (omega (arith, w .later j (omega arith) l)) apart
+          (ap (λ (ps : List ℕ). getD ps j 0) (sym (kept-positions positions owners k from t)))
+          (ap (λ (os : List ℕ). getD os (getD positions j 0) 0) (sym (kept-owners positions owners k from t)) ∙ mine)

@@ -1,0 +1,61 @@
+-- `exchange::place_row` meets its contract.
+use borrow.Author.Needs.{needs}
+use Rattle.row_lists.proofs.exchange.place_row.Statement.{statement}
+use Rattle.row_lists.proofs.exchange.place_row.Tie as tie
+
+mul-from : tie.Need-mul-from
+mul-from c = search needs
+
+slice-read-from : tie.Need-slice-read-from
+slice-read-from c = search needs
+
+cast-from : tie.Need-cast-from
+cast-from c = search needs
+
+swap-words-requires : tie.Need-swap-words-requires
+swap-words-requires c κs = search needs
+
+swap-sums-requires : tie.Need-swap-sums-requires
+swap-sums-requires c κs = search needs
+
+tell-owner-requires : tie.Need-tell-owner-requires
+tell-owner-requires c κs = search needs
+
+same-length : tie.Need-same-length
+same-length c = search needs
+
+same-length-2 : tie.Need-same-length-2
+same-length-2 c = search needs
+
+same-length-3 : tie.Need-same-length-3
+same-length-3 c = search needs
+
+same-length-4 : tie.Need-same-length-4
+same-length-4 c = search needs
+
+same-length-5 : tie.Need-same-length-5
+same-length-5 c = search needs
+
+returns : tie.Need-returns
+returns c =
+    let told = c .before .before .before .before in
+    let sums = told .before .before .before .before .before .before .before in
+    let words = sums .before .before .before .before .before in
+    (told .tell-owner .ensures .0, (told .tell-owner .ensures .1, (words .swap-words .ensures, sums .swap-sums .ensures)))
+
+pub place-row-spec : {M : Type 1} → statement M
+place-row-spec =
+    tie.close
+    (tie.spec
+    mul-from
+    slice-read-from
+    cast-from
+    swap-words-requires
+    swap-sums-requires
+    tell-owner-requires
+    same-length
+    same-length-2
+    same-length-3
+    same-length-4
+    same-length-5
+    returns)
