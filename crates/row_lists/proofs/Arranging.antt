@@ -10,10 +10,11 @@ use native.Mathlib.Nat.{eq-or-lt-of-le}
 use native.Mathlib.Omega.{arith}
 use borrow.Author.Tests.{eq-eqb, ne-eqb}
 use lib.Dec.{eqb}
-use lib.ListN.{length, getD, set, length-set}
-use lib.Seq.{getD-set-same, getD-set-other, set-out}
+use lib.ListN.{length, getD, set, take, length-set}
+use lib.Seq.{getD-set-same, getD-set-other, set-out, getD-take, length-take-le}
 use Rattle.row_lists.specs.Rows.{maxRows}
 use Rattle.row_lists.specs.Arranging.{Positions, Owned, toldPositions, toldOwners}
+use Rattle.row_lists.proofs.Rows.{Exchanged}
 
 -- ---- told or not
 
@@ -103,10 +104,10 @@ waiting-start ok o =
     }
 
 -- what a place j after k waits for then: the row that stood at k and is at `from` now, or the row that it waited for, which has not moved
-data Told (positions owners positions′ owners′ : List ℕ) (k from j : ℕ) : Type 0 where
-  moved : getD positions j 0 ≡ k → k < from → getD positions′ j 0 ≡ from → getD owners′ from 0 ≡ j → Told positions owners positions′ owners′ k from j
+data Told (positions positions′ owners′ : List ℕ) (k from j : ℕ) : Type 0 where
+  moved : getD positions j 0 ≡ k → k < from → getD positions′ j 0 ≡ from → getD owners′ from 0 ≡ j → Told positions positions′ owners′ k from j
   stays : k < getD positions j 0 → getD positions j 0 ≢ from → getD positions′ j 0 ≡ getD positions j 0 → getD owners′ (getD positions j 0) 0 ≡ j
-      → Told positions owners positions′ owners′ k from j
+      → Told positions positions′ owners′ k from j
 
 module _ {positions owners : List ℕ} {k used rows : ℕ} (w : Waiting positions owners k used rows) (now : k < used) where
   abbrev from : ℕ
@@ -115,14 +116,22 @@ module _ {positions owners : List ℕ} {k used rows : ℕ} (w : Waiting position
   abbrev owner : ℕ
   owner = getD owners k 0
 
+  abbrev positions′ : List ℕ
+  positions′ = toldPositions positions owners k from
+
+  abbrev owners′ : List ℕ
+  owners′ = toldOwners positions owners k from
+
+  from-later : k ≤ from
+  from-later = w .later k (omega arith) now
+
+  from-inside : from < rows
+  from-inside = w .inside k (omega arith) now
+
   from-owner : getD owners from 0 ≡ k
   from-owner = w .owned .owner k (omega arith) now
 
-  from-inside : from < maxRows
-  from-inside = omega (arith, w .inside k (omega arith) now, w .few)
-
-  told : (j : ℕ) → k < j → j < used
-      → Told positions owners (toldPositions positions owners k from) (toldOwners positions owners k from) k from j
+  told : (j : ℕ) → k < j → j < used → Told positions positions′ owners′ k from j
   told j h l = go (ℕ-discrete (getD positions j 0) k) (ℕ-discrete (getD positions owner 0) k)
     where
       mine : getD owners (getD positions j 0) 0 ≡ j
@@ -131,17 +140,16 @@ module _ {positions owners : List ℕ} {k used rows : ℕ} (w : Waiting position
       apart : getD positions j 0 ≢ from
       apart e = omega (arith, ap (λ (p : ℕ). getD owners p 0) e, mine, from-owner)
 
-      go : Dec (getD positions j 0 ≡ k) → Dec (getD positions owner 0 ≡ k)
-          → Told positions owners (toldPositions positions owners k from) (toldOwners positions owners k from) k from j
+      go : Dec (getD positions j 0 ≡ k) → Dec (getD positions owner 0 ≡ k) → Told positions positions′ owners′ k from j
       go (yes e) _ =
           let o : owner ≡ j = ap (λ (p : ℕ). getD owners p 0) (sym e) ∙ mine in
           let t : getD positions owner 0 ≡ k = ap (λ (i : ℕ). getD positions i 0) o ∙ e in
-          moved e (omega (arith, w .later k (omega arith) now, apart))
+          moved e (omega (arith, from-later, apart))
           (ap (λ (ps : List ℕ). getD ps j 0) (sym (told-positions positions owners k from t))
           ∙ ap (λ (i : ℕ). getD (set positions i from) j 0) o
           ∙ getD-set-same positions j from 0 (omega (arith, w .places, w .few, w .enough)))
           (ap (λ (os : List ℕ). getD os from 0) (sym (told-owners positions owners k from t))
-          ∙ getD-set-same owners from owner 0 (omega (arith, from-inside, w .owned .places))
+          ∙ getD-set-same owners from owner 0 (omega (arith, from-inside, w .few, w .owned .places))
           ∙ o)
       go (no n) (yes t) =
           stays (omega (arith, w .later j (omega arith) l)) apart
@@ -154,3 +162,74 @@ module _ {positions owners : List ℕ} {k used rows : ℕ} (w : Waiting position
           stays (omega (arith, w .later j (omega arith) l)) apart
           (ap (λ (ps : List ℕ). getD ps j 0) (sym (kept-positions positions owners k from t)))
           (ap (λ (os : List ℕ). getD os (getD positions j 0) 0) (sym (kept-owners positions owners k from t)) ∙ mine)
+
+  -- what holds of the lists with one member stored, and of the lists as they were, holds of them now
+  either : (P : List ℕ → List ℕ → Type 0) → P (set positions owner from) (set owners from owner) → P positions owners → P positions′ owners′
+  either P stored kept = go (ℕ-discrete (getD positions owner 0) k)
+    where
+      go : Dec (getD positions owner 0 ≡ k) → P positions′ owners′
+      go (yes t) = rw (← told-positions positions owners k from t, ← told-owners positions owners k from t) stored
+      go (no t) = rw (← kept-positions positions owners k from t, ← kept-owners positions owners k from t) kept
+
+  pub waiting-next : Waiting positions′ owners′ (k + 1) used rows
+  waiting-next =
+      record {
+        places = either (λ ps os. length ps ≡ maxRows) (length-set positions owner from ∙ w .places) (w .places);
+        few = w .few;
+        enough = w .enough;
+        later = λ j h l. later j (told j (omega arith) l);
+        inside = λ j h l. inside j (omega arith) l (told j (omega arith) l);
+        owned =
+          record {
+            places = either (λ ps os. length os ≡ maxRows) (length-set owners from owner ∙ w .owned .places) (w .owned .places);
+            small =
+              either (λ ps os. (p : ℕ) → getD os p 0 < maxRows) (set-small owners (w .owned .small) from owner (w .owned .small k)) (w .owned .small);
+            owner = λ j h l. own j (told j (omega arith) l)
+          }
+      }
+    where
+      later : (j : ℕ) → Told positions positions′ owners′ k from j → k + 1 ≤ getD positions′ j 0
+      later j (moved e h p o) = omega arith
+      later j (stays h n p o) = omega arith
+
+      inside : (j : ℕ) → k < j → j < used → Told positions positions′ owners′ k from j → getD positions′ j 0 < rows
+      inside j h l (moved e g p o) = omega (arith, from-inside)
+      inside j h l (stays g n p o) = omega (arith, w .inside j (omega arith) l)
+
+      own : (j : ℕ) → Told positions positions′ owners′ k from j → getD owners′ (getD positions′ j 0) 0 ≡ j
+      own j (moved e h p o) = rw p o
+      own j (stays h n p o) = rw p o
+
+-- ---- the rows themselves: any function of a row's number, before and now
+
+-- the rows asked for stand in the places before k, and at the positions of the places from k on
+pub record Brought {A : Type 0} (before now : ℕ → A) (asked positions : List ℕ) (k used : ℕ) : Type 0 where
+  pub arrived : (j : ℕ) → j < k → now j ≡ before (getD asked j 0)
+  pub coming : (j : ℕ) → k ≤ j → j < used → now (getD positions j 0) ≡ before (getD asked j 0)
+
+pub brought-start : {A : Type 0} (before : ℕ → A) (asked : List ℕ) (used : ℕ) → Brought before before asked asked 0 used
+brought-start before asked used = record { arrived = λ j h. absurd (omega arith); coming = λ j h l. refl }
+
+pub brought-next :
+    {A : Type 0} {before now next : ℕ → A} {asked positions owners : List ℕ} {k used rows : ℕ} → Waiting positions owners k used rows → k < used
+    → Exchanged now next k (getD positions k 0) → Brought before now asked positions k used
+    → Brought before next asked (toldPositions positions owners k (getD positions k 0)) (k + 1) used
+brought-next {A} {before} {now} {next} {asked} {positions} {owners} {k} {used} w h x b =
+    record { arrived = λ j l. arrived j l (ℕ-discrete j k); coming = λ j g l. coming j (omega arith) l (told w h j (omega arith) l) }
+  where
+    arrived : (j : ℕ) → j < k + 1 → Dec (j ≡ k) → next j ≡ before (getD asked j 0)
+    arrived j l (yes e) = rw e (x .here ∙ b .coming k (omega arith) h)
+    arrived j l (no n) = x .others j n (λ e. omega (arith, from-later w h)) ∙ b .arrived j (omega arith)
+
+    coming : (j : ℕ) → k ≤ j → j < used
+        → Told positions (toldPositions positions owners k (getD positions k 0)) (toldOwners positions owners k (getD positions k 0)) k (getD positions k 0) j
+        → next (getD (toldPositions positions owners k (getD positions k 0)) j 0) ≡ before (getD asked j 0)
+    coming j g l (moved e f p o) = rw p (x .there ∙ ap now (sym e) ∙ b .coming j g l)
+    coming j g l (stays f n p o) = rw p (x .others (getD positions j 0) (λ e. omega arith) n ∙ b .coming j g l)
+
+pub brought-end :
+    {A : Type 0} {before now : ℕ → A} {asked positions : List ℕ} {k used : ℕ} → used ≤ k → used ≤ length asked → Brought before now asked positions k used
+    → (j : ℕ) → j < length (take used asked) → now j ≡ before (getD (take used asked) j 0)
+brought-end {A} {before} {now} {asked} {positions} {k} {used} h l b j i =
+    let inside : j < used = omega (arith, length-take-le used asked l) in
+    rw (getD-take used asked j 0 inside) (b .arrived j (omega arith))

@@ -2,3 +2,4 @@
 pub mod Fills
 pub mod Rows
 pub mod Arranging
+pub mod Placing

@@ -3,10 +3,11 @@ use Prim.Native.Nat.{ℕ, zero, suc, _+_, _-_, _*_, _≤_, _<_}
 use mathlib.Core.Path.{_≡_, refl, sym, ap, ap₂, _∙_}
 use mathlib.Core.Logic.{_≢_}
 use mathlib.Core.List.{List, [], _∷_, _++_, append-assoc}
+use native.Mathlib.Decide.{ℕ-discrete}
 use native.Mathlib.Numerals.{add-one}
 use native.Mathlib.Omega.{arith, ne-cases}
 use lib.ListN.{length, getD, set, take, drop, length-append, length-take, length-drop, length-set, take-append-drop}
-use lib.Seq.{length-take-le, take-at, drop-at, take-all, take-suc, take-suc-set, drop-drop, drop-append-le, take-append-le, getD-take, getD-drop, paste, paste-suc}
+use lib.Seq.{length-take-le, take-at, drop-at, take-all, take-suc, take-suc-set, drop-drop, drop-append-le, take-append-le, getD-take, getD-drop, getD-set-same, getD-set-other, paste, paste-suc}
 use Rattle.pauli_word.specs.Limits.{wordLength}
 use Rattle.row_lists.specs.Rows.{rowAt, withRow, rowsSwapped, swapped}
 
@@ -93,3 +94,61 @@ module _ (words : List ℕ) (row : ℕ) (inside : wordLength * row + wordLength 
         ne-cases j row (rowAt (withRow words row bytes) j ≡ rowAt words j) apart
         (λ h. over-before wordLength (wordLength * row) bytes words long inside wordLength (wordLength * j) (omega arith))
         (λ h. ap (take wordLength) (over-after wordLength (wordLength * row) bytes words long inside (wordLength * j) (omega arith)))
+
+-- ---- two exchanged
+
+-- what was at a is at b, what was at b is at a, and the others stay
+pub record Exchanged {A : Type 0} (before after : ℕ → A) (a b : ℕ) : Type 0 where
+  pub here : after a ≡ before b
+  pub there : after b ≡ before a
+  pub others : (j : ℕ) → j ≢ a → j ≢ b → after j ≡ before j
+
+-- first a is written over, and then b
+written-exchanged :
+    {A : Type 0} (before once after : ℕ → A) (a b : ℕ)
+    → once a ≡ before b → ((j : ℕ) → j ≢ a → once j ≡ before j) → after b ≡ before a → ((j : ℕ) → j ≢ b → after j ≡ once j)
+    → Exchanged before after a b
+written-exchanged before once after a b first firstOthers last lastOthers =
+    record { here = here (ℕ-discrete a b); there = last; others = λ j n m. lastOthers j m ∙ firstOthers j n }
+  where
+    here : Dec (a ≡ b) → after a ≡ before b
+    here (yes e) = ap after e ∙ last ∙ ap before e
+    here (no n) = lastOthers a n ∙ first
+
+module _ {A : Type 0} (d : A) (xs : List A) (a b : ℕ) where
+  pub swapped-length : length (swapped d xs a b) ≡ length xs
+  unfolding swapped
+  swapped-length = length-set (set xs a (getD xs b d)) b (getD xs a d) ∙ length-set xs a (getD xs b d)
+
+  pub swapped-exchanged : a < length xs → b < length xs → Exchanged (λ j. getD xs j d) (λ j. getD (swapped d xs a b) j d) a b
+  unfolding swapped
+  swapped-exchanged h k =
+      let once : List A = set xs a (getD xs b d) in
+      written-exchanged (λ j. getD xs j d) (λ j. getD once j d) (λ j. getD (swapped d xs a b) j d) a b
+      (getD-set-same xs a (getD xs b d) d h)
+      (λ j n. getD-set-other xs a j (getD xs b d) d n)
+      (getD-set-same once b (getD xs a d) d (omega (arith, length-set xs a (getD xs b d))))
+      (λ j n. getD-set-other once b j (getD xs a d) d n)
+
+module _ (words : List ℕ) (a b : ℕ) (h : wordLength * a + wordLength ≤ length words) (k : wordLength * b + wordLength ≤ length words) where
+  abbrev once : List ℕ
+  once = withRow words a (rowAt words b)
+
+  once-length : length once ≡ length words
+  once-length = withRow-length words a h (rowAt words b) (row-length words b k)
+
+  once-inside : wordLength * b + wordLength ≤ length once
+  once-inside = omega (arith, once-length)
+
+  pub rowsSwapped-length : length (rowsSwapped words a b) ≡ length words
+  unfolding rowsSwapped
+  rowsSwapped-length = withRow-length once b once-inside (rowAt words a) (row-length words a h) ∙ once-length
+
+  pub rowsSwapped-exchanged : Exchanged (rowAt words) (rowAt (rowsSwapped words a b)) a b
+  unfolding rowsSwapped
+  rowsSwapped-exchanged =
+      written-exchanged (rowAt words) (rowAt once) (rowAt (rowsSwapped words a b)) a b
+      (withRow-same words a h (rowAt words b) (row-length words b k))
+      (withRow-other words a h (rowAt words b) (row-length words b k))
+      (withRow-same once b once-inside (rowAt words a) (row-length words a h))
+      (withRow-other once b once-inside (rowAt words a) (row-length words a h))

@@ -1,0 +1,78 @@
+-- The three lists of a sum while their rows are put into their places, and once all are there.
+use Prim.Native.Nat.{ℕ, suc, _+_, _-_, _*_, _≤_, _<_}
+use mathlib.Core.Path.{_≡_, refl, sym, ap, ap₂, _∙_}
+use mathlib.Core.List.{List, [], _∷_, _++_, map}
+use native.Mathlib.Omega.{arith}
+use lib.ListN.{length, getD, set, take, drop, replicate}
+use lib.Seq.{take-add, drop-drop}
+use lib.Ieee.{Float, nan}
+use Rattle.pauli_word.specs.Limits.{wordLength}
+use Rattle.row_lists.specs.Rows.{maxRows, rowAt, rowsSwapped, swapped, joinRows, arrangedWords, arranged}
+use Rattle.row_lists.specs.Arranging.{Positions, Owned, Placed, toldPositions, toldOwners}
+use Rattle.row_lists.proofs.Rows.{swapped-length, swapped-exchanged, rowsSwapped-length, rowsSwapped-exchanged}
+use Rattle.row_lists.proofs.Arranging.{Waiting, waiting-start, waiting-next, Brought, brought-start, brought-next, brought-end}
+
+-- ---- on the way
+
+-- the rows asked for are in the places before k, and the places from k on wait for theirs
+pub record Placing (asked words₀ : List ℕ) (sums₀ : List Float) (counts₀ : List ℕ) (used : ℕ)
+    (positions owners words : List ℕ) (sums : List Float) (counts : List ℕ) (k : ℕ) : Type 0 where
+  pub waiting : Waiting positions owners k used (length sums₀)
+  pub wordsLong : length words ≡ length words₀
+  pub sumsLong : length sums ≡ length sums₀
+  pub countsLong : length counts ≡ length counts₀
+  pub word : Brought (rowAt words₀) (rowAt words) asked positions k used
+  pub sum : Brought (λ j. getD sums₀ j nan) (λ j. getD sums j nan) asked positions k used
+  pub count : Brought (λ j. getD counts₀ j 0) (λ j. getD counts j 0) asked positions k used
+
+module _ {asked words₀ : List ℕ} {sums₀ : List Float} {counts₀ : List ℕ} {used : ℕ} where
+  pub placing-start : {owners : List ℕ} → Positions asked used (length sums₀) → Owned asked owners 0 used
+      → Placing asked words₀ sums₀ counts₀ used asked owners words₀ sums₀ counts₀ 0
+  placing-start ok o =
+      record {
+        waiting = waiting-start ok o;
+        wordsLong = refl;
+        sumsLong = refl;
+        countsLong = refl;
+        word = brought-start (rowAt words₀) asked used;
+        sum = brought-start (λ j. getD sums₀ j nan) asked used;
+        count = brought-start (λ j. getD counts₀ j 0) asked used
+      }
+
+  pub placing-next :
+      {positions owners words : List ℕ} {sums : List Float} {counts : List ℕ} {k : ℕ}
+      → length words₀ ≡ wordLength * length sums₀ → length counts₀ ≡ length sums₀ → k < used
+      → Placing asked words₀ sums₀ counts₀ used positions owners words sums counts k
+      → let from = getD positions k 0 in
+        Placing asked words₀ sums₀ counts₀ used (toldPositions positions owners k from) (toldOwners positions owners k from)
+        (rowsSwapped words k from) (swapped nan sums k from) (swapped 0 counts k from) (k + 1)
+  placing-next {positions} {owners} {words} {sums} {counts} {k} wide long h p =
+      let from : ℕ = getD positions k 0 in
+      let w : Waiting positions owners k used (length sums₀) = p .waiting in
+      let here : k < length sums₀ = omega arith in
+      let there : from < length sums₀ = w .inside k (omega arith) h in
+      let here-word : wordLength * k + wordLength ≤ length words = omega arith in
+      let there-word : wordLength * from + wordLength ≤ length words = omega arith in
+      record {
+        waiting = waiting-next w h;
+        wordsLong = rowsSwapped-length words k from here-word there-word ∙ p .wordsLong;
+        sumsLong = swapped-length nan sums k from ∙ p .sumsLong;
+        countsLong = swapped-length 0 counts k from ∙ p .countsLong;
+        word = brought-next w h (rowsSwapped-exchanged words k from here-word there-word) (p .word);
+        sum = brought-next w h (swapped-exchanged nan sums k from (omega arith) (omega arith)) (p .sum);
+        count = brought-next w h (swapped-exchanged 0 counts k from (omega arith) (omega arith)) (p .count)
+      }
+
+  pub placing-end :
+      {positions owners words : List ℕ} {sums : List Float} {counts : List ℕ} {k : ℕ} → used ≤ k → used ≤ length asked
+      → Placing asked words₀ sums₀ counts₀ used positions owners words sums counts k
+      → Placed (take used asked) words₀ sums₀ counts₀ words sums counts
+  placing-end h l p =
+      record {
+        wordsLong = p .wordsLong;
+        sumsLong = p .sumsLong;
+        countsLong = p .countsLong;
+        word = brought-end h l (p .word);
+        sum = brought-end h l (p .sum);
+        count = brought-end h l (p .count)
+      }
