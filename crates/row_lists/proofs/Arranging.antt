@@ -1,6 +1,6 @@
 -- Rows on their way into their places: what a place's position and owner are once the row at k has gone to where the row for k stood, and
 -- that the rows that have arrived and those still waited for are the ones asked for.
-use Prim.Native.Nat.{ℕ, suc, _+_, _≤_, _<_}
+use Prim.Native.Nat.{ℕ, zero, suc, _+_, _≤_, _<_}
 use mathlib.Core.Path.{_≡_, refl, sym, ap, _∙_}
 use mathlib.Core.Logic.{_≢_}
 use mathlib.Core.Bool.{cond, true, false, Bool}
@@ -10,7 +10,7 @@ use native.Mathlib.Nat.{eq-or-lt-of-le}
 use native.Mathlib.Omega.{arith}
 use borrow.Author.Tests.{eq-eqb, ne-eqb}
 use lib.Dec.{eqb}
-use lib.ListN.{length, getD, set, take, length-set}
+use lib.ListN.{length, getD, set, take, replicate, length-set}
 use lib.Seq.{getD-set-same, getD-set-other, set-out, getD-take, length-take-le}
 use Rattle.row_lists.specs.Rows.{maxRows}
 use Rattle.row_lists.specs.Arranging.{Positions, Owned, toldPositions, toldOwners}
@@ -77,6 +77,23 @@ owning-next {positions} {owners} {used} {k} ok h w =
     step j l (no n) =
         getD-set-other owners (getD positions k 0) (getD positions j 0) k 0 (λ e. n (ok .apart j k (omega arith) h e))
         ∙ w .owner j (omega arith)
+
+-- zeros are small owners
+pub zeros-small : (n p : ℕ) → getD (replicate n 0) p 0 < maxRows
+zeros-small zero p = omega arith
+zeros-small (suc n) zero = omega arith
+zeros-small (suc n) (suc p) = zeros-small n p
+
+-- rows of the first are rows of all
+pub positions-all : {positions : List ℕ} {used rows : ℕ} → Positions positions used rows → Positions positions used maxRows
+positions-all ok =
+    record {
+      places = ok .places;
+      few = omega arith;
+      enough = omega (arith, ok .few, ok .enough);
+      inside = λ k h. omega (arith, ok .inside k h, ok .few);
+      apart = ok .apart
+    }
 
 pub owning-end : {positions owners : List ℕ} {k used : ℕ} → used ≤ k → Owning positions owners k → Owned positions owners 0 used
 owning-end h w = record { places = w .places; small = w .small; owner = λ j l m. w .owner j (omega arith) }

@@ -39,14 +39,14 @@ module _ {asked words₀ : List ℕ} {sums₀ : List Float} {counts₀ : List �
         count = brought-start (λ j. getD counts₀ j 0) asked used
       }
 
-  pub placing-next :
+  placed-next :
       {positions owners words : List ℕ} {sums : List Float} {counts : List ℕ} {k : ℕ}
       → length words₀ ≡ wordLength * length sums₀ → length counts₀ ≡ length sums₀ → k < used
       → Placing asked words₀ sums₀ counts₀ used positions owners words sums counts k
       → let from = getD positions k 0 in
         Placing asked words₀ sums₀ counts₀ used (toldPositions positions owners k from) (toldOwners positions owners k from)
         (rowsSwapped words k from) (swapped nan sums k from) (swapped 0 counts k from) (k + 1)
-  placing-next {positions} {owners} {words} {sums} {counts} {k} wide long h p =
+  placed-next {positions} {owners} {words} {sums} {counts} {k} wide long h p =
       let from : ℕ = getD positions k 0 in
       let w : Waiting positions owners k used (length sums₀) = p .waiting in
       let here : k < length sums₀ = omega arith in
@@ -63,6 +63,17 @@ module _ {asked words₀ : List ℕ} {sums₀ : List Float} {counts₀ : List �
         count = brought-next w h (swapped-exchanged 0 counts k from (omega arith) (omega arith)) (p .count)
       }
 
+  -- the same, of lists that are those
+  pub placing-next :
+      {positions owners words : List ℕ} {sums : List Float} {counts : List ℕ} {k : ℕ} {positions′ owners′ words′ : List ℕ} {sums′ : List Float} {counts′ : List ℕ}
+      → length words₀ ≡ wordLength * length sums₀ → length counts₀ ≡ length sums₀ → k < used
+      → Placing asked words₀ sums₀ counts₀ used positions owners words sums counts k
+      → let from = getD positions k 0 in
+        (positions′ ≡ toldPositions positions owners k from)
+        × ((owners′ ≡ toldOwners positions owners k from) × ((words′ ≡ rowsSwapped words k from) × ((sums′ ≡ swapped nan sums k from) × (counts′ ≡ swapped 0 counts k from))))
+      → Placing asked words₀ sums₀ counts₀ used positions′ owners′ words′ sums′ counts′ (k + 1)
+  placing-next wide long h p e = rw (e .0, e .1 .0, e .1 .1 .0, e .1 .1 .1 .0, e .1 .1 .1 .1) (placed-next wide long h p)
+
   pub placing-end :
       {positions owners words : List ℕ} {sums : List Float} {counts : List ℕ} {k : ℕ} → used ≤ k → used ≤ length asked
       → Placing asked words₀ sums₀ counts₀ used positions owners words sums counts k
@@ -76,3 +87,34 @@ module _ {asked words₀ : List ℕ} {sums₀ : List Float} {counts₀ : List �
         sum = brought-end h l (p .sum);
         count = brought-end h l (p .count)
       }
+
+-- ---- once all are there
+
+first-row : (words : List ℕ) → rowAt words 0 ≡ take wordLength words
+unfolding rowAt
+first-row words = refl
+
+rowAt-next : (words : List ℕ) (j : ℕ) → rowAt (drop wordLength words) j ≡ rowAt words (suc j)
+unfolding rowAt
+rowAt-next words j =
+    let e : wordLength + wordLength * j ≡ wordLength * suc j = omega arith in
+    ap (take wordLength) (drop-drop (wordLength * j) wordLength words ∙ ap (λ (n : ℕ). drop n words) e)
+
+-- the bytes of the first rows are those rows joined
+rows-joined : (row : ℕ → List ℕ) (ps words : List ℕ) → ((j : ℕ) → j < length ps → rowAt words j ≡ row (getD ps j 0))
+    → take (wordLength * length ps) words ≡ joinRows (map row ps)
+unfolding joinRows
+rows-joined row [] words same = refl
+rows-joined row (p ∷ ps) words same =
+    let e : wordLength * suc (length ps) ≡ wordLength + wordLength * length ps = omega arith in
+    ap (λ (n : ℕ). take n words) e
+    ∙ take-add wordLength (wordLength * length ps) words
+    ∙ ap₂ (λ (a b : List ℕ). a ++ b) (sym (first-row words) ∙ same 0 (omega arith))
+    (rows-joined row ps (drop wordLength words) (λ j h. rowAt-next words j ∙ same (suc j) (omega arith)))
+
+members-mapped : {A : Type 0} (d : A) (f : ℕ → A) (ps : List ℕ) (xs : List A) → length ps ≤ length xs → ((j : ℕ) → j < length ps → getD xs j d ≡ f (getD ps j 0))
+    → take (length ps) xs ≡ map f ps
+members-mapped d f [] xs h same = refl
+members-mapped d f (p ∷ ps) [] h same = absurd (omega arith)
+members-mapped {A} d f (p ∷ ps) (x ∷ xs) h same =
+    ap₂ (λ (y : A) (ys : List A). y ∷ ys) (same 0 (omega arith)) (members-mapped d f ps xs (omega arith) (λ j l. same (suc j) (omega arith)))
