@@ -1,0 +1,67 @@
+-- `arrange` meets its contract.
+use mathlib.Core.Path.{_≡_, _∙_}
+use native.Mathlib.Omega.{arith}
+use borrow.Author.Needs.{needs}
+use denote.Ref.{now}
+use lib.ListN.{length, take}
+use lib.Seq.{length-take-le}
+use Rattle.row_lists.specs.Rows.{zero}
+use Rattle.row_lists.proofs.Placing.{words-arranged, sums-arranged, counts-arranged}
+use Rattle.row_lists.proofs.arrange.Statement.{statement}
+use Rattle.row_lists.proofs.arrange.Tie as tie
+
+place-rows-requires : tie.Need-place-rows-requires
+place-rows-requires c κs = search needs
+
+mul-bytes-from : tie.Need-mul-bytes-from
+mul-bytes-from c = search needs
+
+bytes-from-requires : tie.Need-bytes-from-requires
+bytes-from-requires c κs = search needs
+
+floats-from-requires : tie.Need-floats-from-requires
+floats-from-requires c κs = search needs
+
+counts-from-requires : tie.Need-counts-from-requires
+counts-from-requires c κs = search needs
+
+same-length : tie.Need-same-length
+same-length c = search needs
+
+same-length-2 : tie.Need-same-length-2
+same-length-2 c = search needs
+
+same-length-3 : tie.Need-same-length-3
+same-length-3 c = search needs
+
+same-length-4 : tie.Need-same-length-4
+same-length-4 c = search needs
+
+returns : tie.Need-returns
+returns c =
+    let counts = c .before .before in
+    let sums = counts .before .before .before .before in
+    let words = sums .before .before .before .before in
+    let placed = words .before .before .before .before .before .before .before .before .before .before in
+    let s = placed .before .before .before .before .before .before .before .before .before in
+    let ok = s .pre .0 in
+    let used = s .args .used in
+    let p = placed .place-rows .ensures in
+    let few : length (take used (now (s .args .positions))) ≡ used = length-take-le used (now (s .args .positions)) (omega (arith, ok .places, ok .few, ok .enough)) in
+    ( words .bytes-from .ensures ∙ words-arranged p used few,
+      (sums .floats-from .ensures ∙ sums-arranged p used few zero (ok .enough), counts .counts-from .ensures ∙ counts-arranged p used few (omega (arith, ok .enough, s .pre .1 .1))))
+
+pub arrange-spec : {M : Type 1} → statement M
+arrange-spec =
+    tie.close
+    (tie.spec
+    place-rows-requires
+    mul-bytes-from
+    bytes-from-requires
+    floats-from-requires
+    counts-from-requires
+    same-length
+    same-length-2
+    same-length-3
+    same-length-4
+    returns)
