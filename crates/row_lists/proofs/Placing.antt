@@ -3,11 +3,11 @@ use Prim.Native.Nat.{ℕ, suc, _+_, _-_, _*_, _≤_, _<_}
 use mathlib.Core.Path.{_≡_, refl, sym, ap, ap₂, _∙_}
 use mathlib.Core.List.{List, [], _∷_, _++_, map}
 use native.Mathlib.Omega.{arith}
-use lib.ListN.{length, getD, set, take, drop, replicate}
+use lib.ListN.{length, getD, take, drop, replicate}
 use lib.Seq.{take-add, drop-drop}
 use lib.Ieee.{Float, nan}
 use Rattle.pauli_word.specs.Limits.{wordLength}
-use Rattle.row_lists.specs.Rows.{maxRows, rowAt, rowsSwapped, swapped, joinRows, arrangedWords, arranged}
+use Rattle.row_lists.specs.Rows.{rowAt, rowsSwapped, swapped, joinRows, arrangedWords, arranged}
 use Rattle.row_lists.specs.Arranging.{Positions, Owned, Placed, toldPositions, toldOwners}
 use Rattle.row_lists.proofs.Rows.{swapped-length, swapped-exchanged, rowsSwapped-length, rowsSwapped-exchanged}
 use Rattle.row_lists.proofs.Arranging.{Waiting, waiting-start, waiting-next, Brought, brought-start, brought-next, brought-end}

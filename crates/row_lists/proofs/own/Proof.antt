@@ -1,9 +1,6 @@
 -- `own` meets its contract. The loop's invariant: the positions of the first k places have their owners, and no owner is too large.
 use Prim.Native.Nat.{_-_, _≤_}
 use native.Mathlib.Omega.{arith}
-use borrow.Author.Needs.{needs}
-use denote.Ref.{now}
-use lib.ListN.{length}
 use Rattle.row_lists.proofs.Arranging.{Owning, owning-start, owning-next, owning-end}
 use Rattle.row_lists.proofs.own.Statement.{statement}
 use Rattle.row_lists.proofs.own.Tie as tie

@@ -2,16 +2,11 @@
 use Prim.Native.Nat.{_-_, _≤_}
 use mathlib.Core.Path.{refl, sym, _∙_}
 use native.Mathlib.Omega.{arith}
-use borrow.Author.Needs.{needs}
 use Rattle.row_lists.specs.Rows.{maxRows}
 use Rattle.row_lists.proofs.Arranging.{positions-all, zeros-small}
 use Rattle.row_lists.proofs.Placing.{Placing, placing-start, placing-next, placing-end}
 use Rattle.row_lists.proofs.place_rows.Statement.{statement}
 use Rattle.row_lists.proofs.place_rows.Tie as tie
-use Rattle.row_lists.proofs.place_rows.Reads as reads
-use Rattle.row_lists.proofs.place_rows.Lts as lts
-use Rattle.row_lists.proofs.exchange.place_row.Reads as place-row-reads
-use Rattle.row_lists.proofs.own.Reads as own-reads
 
 abbrev Inv-loop : tie.InvT-loop
 Inv-loop positions₀ used words₀ sums₀ counts₀ owners₀ k₀ positions words sums counts owners k = (k ≤ used) × Placing positions₀ words₀ sums₀ counts₀ used positions owners words sums counts k

@@ -3,10 +3,6 @@ use borrow.Author.Needs.{needs}
 use Rattle.row_lists.specs.Rows.{rowsSwapped}
 use Rattle.row_lists.proofs.exchange.swap_words.Statement.{statement}
 use Rattle.row_lists.proofs.exchange.swap_words.Tie as tie
-use Rattle.row_lists.proofs.exchange.swap_words.Reads as reads
-use Rattle.row_lists.proofs.exchange.swap_words.Lts as lts
-use Rattle.row_lists.proofs.exchange.put_row.Reads as put-row-reads
-use Rattle.row_lists.proofs.exchange.row_of.Reads as row-of-reads
 
 row-of-requires : tie.Need-row-of-requires
 row-of-requires c κs = search needs
