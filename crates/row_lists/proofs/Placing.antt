@@ -36,23 +36,24 @@ module _ {asked words₀ : List ℕ} {sums₀ : List Float} {counts₀ : List �
         countsLong = refl;
         word = brought-start (rowAt words₀) asked used;
         sum = brought-start (λ j. getD sums₀ j nan) asked used;
-        count = brought-start (λ j. getD counts₀ j 0) asked used
+        count = brought-start (λ j. getD counts₀ j 0) asked used;
       }
 
-  placed-next :
-      {positions owners words : List ℕ} {sums : List Float} {counts : List ℕ} {k : ℕ}
+  pub placing-next :
+      {positions owners words : List ℕ} {sums : List Float} {counts : List ℕ} {k : ℕ} {positions′ owners′ words′ : List ℕ} {sums′ : List Float} {counts′ : List ℕ}
       → length words₀ ≡ wordLength * length sums₀ → length counts₀ ≡ length sums₀ → k < used
       → Placing asked words₀ sums₀ counts₀ used positions owners words sums counts k
       → let from = getD positions k 0 in
-        Placing asked words₀ sums₀ counts₀ used (toldPositions positions owners k from) (toldOwners positions owners k from)
-        (rowsSwapped words k from) (swapped nan sums k from) (swapped 0 counts k from) (k + 1)
-  placed-next {positions} {owners} {words} {sums} {counts} {k} wide long h p =
+      (positions′ ≡ toldPositions positions owners k from)
+      × ((owners′ ≡ toldOwners positions owners k from) × ((words′ ≡ rowsSwapped words k from) × ((sums′ ≡ swapped nan sums k from) × (counts′ ≡ swapped 0 counts k from))))
+      → Placing asked words₀ sums₀ counts₀ used positions′ owners′ words′ sums′ counts′ (k + 1)
+  placing-next {positions} {owners} {words} {sums} {counts} {k} wide long h p e =
       let from : ℕ = getD positions k 0 in
       let w : Waiting positions owners k used (length sums₀) = p .waiting in
-      let here : k < length sums₀ = omega arith in
       let there : from < length sums₀ = w .inside k (omega arith) h in
       let here-word : wordLength * k + wordLength ≤ length words = omega arith in
       let there-word : wordLength * from + wordLength ≤ length words = omega arith in
+      rw (e .0, e .1 .0, e .1 .1 .0, e .1 .1 .1 .0, e .1 .1 .1 .1)
       record {
         waiting = waiting-next w h;
         wordsLong = rowsSwapped-length words k from here-word there-word ∙ p .wordsLong;
@@ -60,19 +61,8 @@ module _ {asked words₀ : List ℕ} {sums₀ : List Float} {counts₀ : List �
         countsLong = swapped-length 0 counts k from ∙ p .countsLong;
         word = brought-next w h (rowsSwapped-exchanged words k from here-word there-word) (p .word);
         sum = brought-next w h (swapped-exchanged nan sums k from (omega arith) (omega arith)) (p .sum);
-        count = brought-next w h (swapped-exchanged 0 counts k from (omega arith) (omega arith)) (p .count)
+        count = brought-next w h (swapped-exchanged 0 counts k from (omega arith) (omega arith)) (p .count);
       }
-
-  -- the same, of lists that are those
-  pub placing-next :
-      {positions owners words : List ℕ} {sums : List Float} {counts : List ℕ} {k : ℕ} {positions′ owners′ words′ : List ℕ} {sums′ : List Float} {counts′ : List ℕ}
-      → length words₀ ≡ wordLength * length sums₀ → length counts₀ ≡ length sums₀ → k < used
-      → Placing asked words₀ sums₀ counts₀ used positions owners words sums counts k
-      → let from = getD positions k 0 in
-        (positions′ ≡ toldPositions positions owners k from)
-        × ((owners′ ≡ toldOwners positions owners k from) × ((words′ ≡ rowsSwapped words k from) × ((sums′ ≡ swapped nan sums k from) × (counts′ ≡ swapped 0 counts k from))))
-      → Placing asked words₀ sums₀ counts₀ used positions′ owners′ words′ sums′ counts′ (k + 1)
-  placing-next wide long h p e = rw (e .0, e .1 .0, e .1 .1 .0, e .1 .1 .1 .0, e .1 .1 .1 .1) (placed-next wide long h p)
 
   pub placing-end :
       {positions owners words : List ℕ} {sums : List Float} {counts : List ℕ} {k : ℕ} → used ≤ k → used ≤ length asked
@@ -85,7 +75,7 @@ module _ {asked words₀ : List ℕ} {sums₀ : List Float} {counts₀ : List �
         countsLong = p .countsLong;
         word = brought-end h l (p .word);
         sum = brought-end h l (p .sum);
-        count = brought-end h l (p .count)
+        count = brought-end h l (p .count);
       }
 
 -- ---- once all are there

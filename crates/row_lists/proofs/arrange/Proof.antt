@@ -1,4 +1,4 @@
--- `arrange` meets its contract.
+-- `arrange` meets its contract: the lists with their rows in place, and zeros after those, are the lists arranged (`words-arranged` and the like).
 use mathlib.Core.Path.{_≡_, _∙_}
 use native.Mathlib.Omega.{arith}
 use borrow.Author.Needs.{needs}
@@ -47,9 +47,10 @@ returns c =
     let ok = s .pre .0 in
     let used = s .args .used in
     let p = placed .place-rows .ensures in
-    let few : length (take used (now (s .args .positions))) ≡ used = length-take-le used (now (s .args .positions)) (omega (arith, ok .places, ok .few, ok .enough)) in
-    ( words .bytes-from .ensures ∙ words-arranged p used few,
-      (sums .floats-from .ensures ∙ sums-arranged p used few zero (ok .enough), counts .counts-from .ensures ∙ counts-arranged p used few (omega (arith, ok .enough, s .pre .1 .1))))
+    let few : length (take used (now (s .args .positions))) ≡ used = length-take-le used (now (s .args .positions)) (omega (arith, ok .places, ok .few, ok .enough)) in (
+      words .bytes-from .ensures ∙ words-arranged p used few,
+      (sums .floats-from .ensures ∙ sums-arranged p used few zero (ok .enough), counts .counts-from .ensures ∙ counts-arranged p used few (omega (arith, ok .enough, s .pre .1 .1))),
+    )
 
 pub arrange-spec : {M : Type 1} → statement M
 arrange-spec =

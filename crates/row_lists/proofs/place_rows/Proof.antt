@@ -34,13 +34,22 @@ place-row-requires c κs =
     let p = l .inv .1 in
     let s = c .before .before .before .before .before .before .before .before .before .before .before .before .before .before .before in
     let h = c .before .before .before .before .before .loop-test .taken in
-    let w = p .waiting in
-    ( w .places,
-      ( w .owned .places,
-        ( omega (arith, w .few, p .sumsLong),
-          ( omega (arith, w .enough, p .sumsLong, h),
-            ( omega (arith, w .inside (l .k) (omega arith) h, p .sumsLong),
-              (w .owned .small (l .k), (omega (arith, p .wordsLong, s .pre .1 .0, p .sumsLong), p .countsLong ∙ s .pre .1 .1 ∙ sym (p .sumsLong))))))))
+    let w = p .waiting in (
+      w .places,
+      (
+        w .owned .places,
+        (
+          omega (arith, w .few, p .sumsLong),
+          (
+            omega (arith, w .enough, p .sumsLong, h),
+            (
+              omega (arith, w .inside (l .k) (omega arith) h, p .sumsLong),
+              (w .owned .small (l .k), (omega (arith, p .wordsLong, s .pre .1 .0, p .sumsLong), p .countsLong ∙ s .pre .1 .1 ∙ sym (p .sumsLong))),
+            ),
+          ),
+        ),
+      ),
+    )
 
 add-k : tie.Need-add-k Inv-loop μ-loop
 add-k c = omega arith

@@ -1,4 +1,4 @@
--- `exchange::place_row` meets its contract.
+-- `exchange::place_row` meets its contract: each list is what the function that it is lent to makes of it.
 use borrow.Author.Needs.{needs}
 use Rattle.row_lists.proofs.exchange.place_row.Statement.{statement}
 use Rattle.row_lists.proofs.exchange.place_row.Tie as tie

@@ -1,4 +1,4 @@
--- `exchange::swap_sums` meets its contract.
+-- `exchange::swap_sums` meets its contract: what it stores in each list is what `swapped` stores.
 use mathlib.Core.Path.{refl}
 use borrow.Author.Needs.{needs}
 use Rattle.row_lists.specs.Rows.{swapped}

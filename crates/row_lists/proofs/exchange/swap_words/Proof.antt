@@ -1,4 +1,4 @@
--- `exchange::swap_words` meets its contract.
+-- `exchange::swap_words` meets its contract: the rows that it reads and writes are those of `rowsSwapped`.
 use borrow.Author.Needs.{needs}
 use Rattle.row_lists.specs.Rows.{rowsSwapped}
 use Rattle.row_lists.proofs.exchange.swap_words.Statement.{statement}

@@ -1,4 +1,4 @@
--- `exchange::tell_owner` meets its contract.
+-- `exchange::tell_owner` meets its contract: it looks whether the place waits for the row at k, as the definitions do.
 use native.Mathlib.Omega.{arith}
 use borrow.Author.Needs.{needs}
 use denote.Ref.{now}
