@@ -109,19 +109,16 @@ members-mapped d f (p ∷ ps) [] h same = absurd (omega arith)
 members-mapped {A} d f (p ∷ ps) (x ∷ xs) h same =
     ap₂ (λ (y : A) (ys : List A). y ∷ ys) (same 0 (omega arith)) (members-mapped d f ps xs (omega arith) (λ j l. same (suc j) (omega arith)))
 
--- the lists with their rows in place, and zeros after those, are the lists arranged
-module _ {ps words : List ℕ} {sums : List Float} {counts words′ : List ℕ} {sums′ : List Float} {counts′ : List ℕ}
-    (p : Placed ps words sums counts words′ sums′ counts′) (used : ℕ) (few : length ps ≡ used) where
-  pub words-arranged : take (wordLength * used) words′ ++ replicate (length words′ - wordLength * used) 0 ≡ arrangedWords words ps
+-- a list with its rows in place, and zeros after those, is the list arranged
+module _ (ps : List ℕ) (used : ℕ) (few : length ps ≡ used) where
+  pub words-arranged : (words words′ : List ℕ) → length words′ ≡ length words → ((j : ℕ) → j < length ps → rowAt words′ j ≡ rowAt words (getD ps j 0))
+      → take (wordLength * used) words′ ++ replicate (length words′ - wordLength * used) 0 ≡ arrangedWords words ps
   unfolding arrangedWords
-  words-arranged = rw (← few, p .wordsLong, rows-joined (rowAt words) ps words′ (p .word))
+  words-arranged words words′ long same = rw (← few, long, rows-joined (rowAt words) ps words′ same)
 
-  pub sums-arranged : (z : Float) → used ≤ length sums → take used sums′ ++ replicate (length sums′ - used) z ≡ arranged nan z sums ps
+  pub members-arranged : {A : Type 0} (d z : A) (xs xs′ : List A) → length xs′ ≡ length xs → used ≤ length xs
+      → ((j : ℕ) → j < length ps → getD xs′ j d ≡ getD xs (getD ps j 0) d)
+      → take used xs′ ++ replicate (length xs′ - used) z ≡ arranged d z xs ps
   unfolding arranged
-  sums-arranged z h =
-      rw (← few, p .sumsLong, members-mapped nan (λ i. getD sums i nan) ps sums′ (omega (arith, p .sumsLong)) (p .sum))
-
-  pub counts-arranged : used ≤ length counts → take used counts′ ++ replicate (length counts′ - used) 0 ≡ arranged 0 0 counts ps
-  unfolding arranged
-  counts-arranged h =
-      rw (← few, p .countsLong, members-mapped 0 (λ i. getD counts i 0) ps counts′ (omega (arith, p .countsLong)) (p .count))
+  members-arranged d z xs xs′ long h same =
+      rw (← few, long, members-mapped d (λ i. getD xs i d) ps xs′ (omega arith) same)

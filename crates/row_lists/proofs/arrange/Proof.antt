@@ -1,12 +1,15 @@
--- `arrange` meets its contract: the lists with their rows in place, and zeros after those, are the lists arranged (`words-arranged` and the like).
+-- `arrange` meets its contract: each list with its rows in place, and zeros after those, is the list arranged (`words-arranged`, `members-arranged`).
+use Prim.Native.Nat.{ℕ}
 use mathlib.Core.Path.{_≡_, _∙_}
+use mathlib.Core.List.{List}
 use native.Mathlib.Omega.{arith}
 use borrow.Author.Needs.{needs}
 use denote.Ref.{now}
 use lib.ListN.{length, take}
 use lib.Seq.{length-take-le}
+use lib.Ieee.{nan}
 use Rattle.row_lists.specs.Rows.{zero}
-use Rattle.row_lists.proofs.Placing.{words-arranged, sums-arranged, counts-arranged}
+use Rattle.row_lists.proofs.Placing.{words-arranged, members-arranged}
 use Rattle.row_lists.proofs.arrange.Statement.{statement}
 use Rattle.row_lists.proofs.arrange.Tie as tie
 
@@ -44,12 +47,16 @@ returns c =
     let words = sums .before .before .before .before in
     let placed = words .before .before .before .before .before .before .before .before .before .before in
     let s = placed .before .before .before .before .before .before .before .before .before in
+    let a = s .args in
     let ok = s .pre .0 in
-    let used = s .args .used in
     let p = placed .place-rows .ensures in
-    let few : length (take used (now (s .args .positions))) ≡ used = length-take-le used (now (s .args .positions)) (omega (arith, ok .places, ok .few, ok .enough)) in (
-      words .bytes-from .ensures ∙ words-arranged p used few,
-      (sums .floats-from .ensures ∙ sums-arranged p used few zero (ok .enough), counts .counts-from .ensures ∙ counts-arranged p used few (omega (arith, ok .enough, s .pre .1 .1))),
+    let ps : List ℕ = take (a .used) (now (a .positions)) in
+    let few : length ps ≡ a .used = length-take-le (a .used) (now (a .positions)) (omega (arith, ok .places, ok .few, ok .enough)) in (
+      words .bytes-from .ensures ∙ words-arranged ps (a .used) few (now (a .words)) _ (p .wordsLong) (p .word),
+      (
+        sums .floats-from .ensures ∙ members-arranged ps (a .used) few nan zero (now (a .sums)) _ (p .sumsLong) (ok .enough) (p .sum),
+        counts .counts-from .ensures ∙ members-arranged ps (a .used) few 0 0 (now (a .counts)) _ (p .countsLong) (omega (arith, ok .enough, s .pre .1 .1)) (p .count),
+      ),
     )
 
 pub arrange-spec : {M : Type 1} → statement M
