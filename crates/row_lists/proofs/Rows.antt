@@ -130,6 +130,13 @@ module _ {A : Type 0} (d : A) (xs : List A) (a b : ℕ) where
       (getD-set-same once b (getD xs a d) d (omega (arith, length-set xs a (getD xs b d))))
       (λ j n. getD-set-other once b j (getD xs a d) d n)
 
+-- rows read, and written over one after the other
+pub rows-swapped :
+    (words : List ℕ) (a b : ℕ) {left right once twice : List ℕ}
+    → left ≡ rowAt words a → right ≡ rowAt words b → once ≡ withRow words a right → twice ≡ withRow once b left → twice ≡ rowsSwapped words a b
+unfolding rowsSwapped
+rows-swapped words a b l r o t = t ∙ ap₂ (λ (w x : List ℕ). withRow w b x) (o ∙ ap (withRow words a) r) l
+
 module _ (words : List ℕ) (a b : ℕ) (h : wordLength * a + wordLength ≤ length words) (k : wordLength * b + wordLength ≤ length words) where
   abbrev once : List ℕ
   once = withRow words a (rowAt words b)

@@ -1,6 +1,7 @@
 -- `exchange::swap_words` meets its contract: the rows that it reads and writes are those of `rowsSwapped`.
 use borrow.Author.Needs.{needs}
-use Rattle.row_lists.specs.Rows.{rowsSwapped}
+use denote.Ref.{now}
+use Rattle.row_lists.proofs.Rows.{rows-swapped}
 use Rattle.row_lists.proofs.exchange.swap_words.Statement.{statement}
 use Rattle.row_lists.proofs.exchange.swap_words.Tie as tie
 
@@ -26,8 +27,13 @@ same-length : tie.Need-same-length
 same-length c = search needs
 
 returns : tie.Need-returns
-unfolding rowsSwapped
-returns c = cc
+returns c =
+    let twice = c .before .before in
+    let once = twice .before .before .before .before .before in
+    let right = once .before .before .before in
+    let left = right .before .before in
+    let a = left .before .before .before .args in
+    rows-swapped (now (a .words)) (a .a) (a .b) (left .row-of .ensures) (right .row-of2 .ensures) (once .put-row .ensures) (twice .put-row2 .ensures)
 
 pub swap-words-spec : {M : Type 1} → statement M
 swap-words-spec =
