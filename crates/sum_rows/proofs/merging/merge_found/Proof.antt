@@ -78,12 +78,11 @@ same-length-2 : tie.Need-same-length-2
 same-length-2 c = search needs
 
 returns : tie.Need-returns
-returns c = 
+returns c =
     let s = c .before .before .before .before .before .before .before .before .before .before .before in
-    let at = getD (now (s .args .positions)) (s .args .k) 0 in
-    (
+    let at = getD (now (s .args .positions)) (s .args .k) 0 in (
       subst (λ (t : RowSum). Held (now (s .args .words)) (now (s .args .coefficients)) (s .args .row + 1) (s .args .used) (now (s .args .positions)) (set (now (s .args .sums)) at (t .coefficient)) (set (now (s .args .counts)) at (t .rows)))
-      (sym (c .before .merged .ensures)) (held-found (s .pre .0) (s .pre .1 .0) (s .args .k) (s .pre .1 .1)),
+          (sym (c .before .merged .ensures)) (held-found (s .pre .0) (s .pre .1 .0) (s .args .k) (s .pre .1 .1)),
       c .is-finite .ensures ∙ ap finiteSum (c .before .merged .ensures) ∙ found-finite (s .pre .0) (s .pre .1 .0) (s .args .k) (s .pre .1 .1),
     )
 

@@ -18,7 +18,7 @@ cast-insert : tie.Need-cast-insert
 cast-insert c = search needs
 
 insert-requires : tie.Need-insert-requires
-insert-requires c κs = 
+insert-requires c κs =
     let s = c .before .before .before .before .before .before in
     (free-place (s .pre .0) (s .pre .1 .0) (s .args .k) (s .pre .1 .1), free-room (s .pre .0) (s .pre .1 .0) (s .args .k) (s .pre .1 .1))
 
@@ -59,13 +59,12 @@ same-length-3 : tie.Need-same-length-3
 same-length-3 c = search needs
 
 returns : tie.Need-returns
-returns c = 
+returns c =
     let s = c .before .before .before .before .before .before .before .before .before .before .before .before .before in
     let inserted = c .before .before .before .before .before .before .insert in
-    let first = c .before .merged .ensures ∙ ap (λ (t : RowSum). addRow t (getD (now (s .args .coefficients)) (s .args .row) nan)) (c .before .before .before .new .ensures) in
-    (
+    let first = c .before .merged .ensures ∙ ap (λ (t : RowSum). addRow t (getD (now (s .args .coefficients)) (s .args .row) nan)) (c .before .before .before .new .ensures) in (
       subst (λ (t : RowSum). Held (now (s .args .words)) (now (s .args .coefficients)) (s .args .row + 1) (s .args .used + 1) (inserted .last .0) (set (now (s .args .sums)) (s .args .row) (t .coefficient)) (set (now (s .args .counts)) (s .args .row) (t .rows)))
-      (sym first) (held-free (s .pre .0) (s .pre .1 .0) (s .args .k) (s .pre .1 .1) (inserted .last .0) (inserted .ensures .0) (inserted .ensures .1)),
+          (sym first) (held-free (s .pre .0) (s .pre .1 .0) (s .args .k) (s .pre .1 .1) (inserted .last .0) (inserted .ensures .0) (inserted .ensures .1)),
       c .is-finite .ensures ∙ ap finiteSum first ∙ free-finite (s .pre .0) (s .pre .1 .0) (s .args .k) (s .pre .1 .1),
     )
 

@@ -14,7 +14,7 @@ enum-known-k : tie.Need-enum-known-k
 enum-known-k c = search needs
 
 merge-found-requires : tie.Need-merge-found-requires
-merge-found-requires c κs = 
+merge-found-requires c κs =
     let s = c .before .before .before .before .before .before .before .before .before .before .before .before .before in
     (s .pre .0, (s .pre .1, sym (c .before .before .before .before .before .before .slot-of .ensures) ∙ ap slotFound (c .before .before .before .before .k .given .1)))
 
@@ -22,7 +22,7 @@ enum-known-k-2 : tie.Need-enum-known-k-2
 enum-known-k-2 c = search needs
 
 merge-free-requires : tie.Need-merge-free-requires
-merge-free-requires c κs = 
+merge-free-requires c κs =
     let s = c .before .before .before .before .before .before .before .before .before .before .before .before .before in
     (s .pre .0, (s .pre .1, sym (c .before .before .before .before .before .before .slot-of .ensures) ∙ ap slotFound (c .before .before .before .before .k2 .given .1)))
 

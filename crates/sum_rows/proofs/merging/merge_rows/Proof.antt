@@ -38,12 +38,11 @@ same-length-3 : tie.Need-same-length-3 Inv-loop μ-loop
 same-length-3 c = c .before .before .before .before .before .before .before .before .merge-row .ensures .0 .countPlaces ∙ sym (c .before .before .before .before .before .before .before .before .before .before .before .before .before .before .before .before .before .before .before .pre .countPlaces)
 
 returns : tie.Need-returns Inv-loop μ-loop
-returns c = 
+returns c =
     let s = c .before .before .before .before .before .before .before .before .before .before .before .before .before .before .before .before .before .before .before in
     let l = c .before .before .before .before .before .before .before .before .before .before .before .before .before .loop in
     let row = c .before .before .before .before .before .before .before .before .merge-row in
-    let infinite = sym (row .ensures .1) ∙ not-true (row .result .finite) (c .if1 .taken) in
-    (
+    let infinite = sym (row .ensures .1) ∙ not-true (row .result .finite) (c .if1 .taken) in (
       sym (ap (onAnswer length) (fold-refused (now (s .args .words)) (now (s .args .coefficients)) (l .i) (l .inv .1) (c .before .before .before .before .before .before .before .before .before .before .before .before .loop-test .taken) infinite)),
       (row .ensures .0 .places, row .ensures .0 .sumPlaces, row .ensures .0 .countPlaces),
     )
@@ -55,14 +54,13 @@ loop-less : tie.Need-loop-less Inv-loop μ-loop
 loop-less c = omega (arith, c .before .before .before .before .before .before .before .before .before .before .before .before .loop-test .taken)
 
 loop-again : tie.Need-loop-again Inv-loop μ-loop
-loop-again c = 
+loop-again c =
     let s = c .before .before .before .before .before .before .before .before .before .before .before .before .before .before .before .before .before .before .before in
     let l = c .before .before .before .before .before .before .before .before .before .before .before .before .before .loop in
-    let row = c .before .before .before .before .before .before .before .before .merge-row in
-    (
+    let row = c .before .before .before .before .before .before .before .before .merge-row in (
       row .ensures .0,
       below-more (λ j. sumFinite (now (s .args .words)) (now (s .args .coefficients)) j ≡ true) (l .i) (l .inv .1)
-      (sym (row .ensures .1) ∙ not-false (row .result .finite) (c .if1 .left)),
+          (sym (row .ensures .1) ∙ not-false (row .result .finite) (c .if1 .left)),
     )
 
 same-length-4 : tie.Need-same-length-4 Inv-loop μ-loop
@@ -75,17 +73,16 @@ same-length-6 : tie.Need-same-length-6 Inv-loop μ-loop
 same-length-6 c = c .before .loop .inv .0 .countPlaces ∙ sym (c .before .before .before .before .before .before .before .pre .countPlaces)
 
 returns-2 : tie.Need-returns-2 Inv-loop μ-loop
-returns-2 c = 
+returns-2 c =
     let s = c .before .before .before .before .before .before .before in
     let l = c .before .loop in
     let words = now (s .args .words) in
     let cs = now (s .args .coefficients) in
     let all : l .i ≡ length cs = omega (arith, c .loop-test .left, l .inv .0 .merged) in
     let held : Held words cs (length cs) (l .used) (l .positions) (l .sums) (l .counts) =
-    subst (λ (i : ℕ). Held words cs i (l .used) (l .positions) (l .sums) (l .counts)) all (l .inv .0) in
-    (
+    subst (λ (i : ℕ). Held words cs i (l .used) (l .positions) (l .sums) (l .counts)) all (l .inv .0) in (
       ap answer (sym (held-length words cs held))
-      ∙ sym (ap (onAnswer length) (fold-answers words cs (λ j h. l .inv .1 j (omega (arith, h, all))))),
+          ∙ sym (ap (onAnswer length) (fold-answers words cs (λ j h. l .inv .1 j (omega (arith, h, all))))),
       held,
     )
 
