@@ -6,3 +6,4 @@ pub mod Searching
 pub mod Inserting
 pub mod RowMerging
 pub mod Folding
+pub mod Filled
