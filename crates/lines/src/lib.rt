@@ -34,6 +34,15 @@ pub fn signed32(n: i32) {
     }
 }
 
+// A float by its bits, sixteen hexadecimal digits, so that each float has its own text.
+pub fn float(x: f64) {
+    if x == x {
+        io::print_hex(STDOUT_FILENO, f64::to_bits(x), 16);
+    } else {
+        text(b"nan");
+    }
+}
+
 // The letters of a word; nothing of what is no word.
 pub fn spell(n: usize, word: &[u8]) {
     let r = pauli_word::to_text(n, word);

@@ -40,6 +40,16 @@ pub fn numbers(list: &[usize]) {
     }
 }
 
+pub fn floats(list: &[f64]) {
+    none_of(list.len());
+    let mut i = 0;
+    while i < list.len() {
+        crate::text(b" ");
+        crate::float(list[i]);
+        i += 1;
+    }
+}
+
 // The words of n sites in a list of bytes.
 pub fn words(n: usize, list: &[u8]) {
     let mut at = 0;

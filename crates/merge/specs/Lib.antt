@@ -1,0 +1,2 @@
+-- What the contracts of this crate say, and what is promised of a sum.
+pub mod Calls

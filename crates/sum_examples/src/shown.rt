@@ -1,0 +1,156 @@
+// A sum of a few rows: folded, and printed with its lists.
+use group::Group;
+use outcome::Number;
+use pauli_word::WORD_BYTES;
+
+// The most rows of a sum here, and a list of so many words.
+pub const ROOM: usize = 4;
+
+// Writes the word of a text into a list, from a place on.
+pub fn put(list: &mut [u8], at: usize, letters: &[u8]) {
+    let word = pauli_word::from_text(letters).word;
+    if at <= list.len() {
+        write(&word, &mut list[at..]);
+    }
+}
+
+// Writes bytes over the front of a list, as far as it goes.
+fn write(bytes: &[u8], list: &mut [u8]) {
+    let mut i = 0;
+    while i < bytes.len() {
+        if i < list.len() {
+            list[i] = bytes[i];
+        }
+        i += 1;
+    }
+}
+
+// Folds a sum with one row.
+pub fn one(name: &[u8], g: Group, n: usize, letters: &[u8], coefficient: f64) {
+    let mut words = [0u8; WORD_BYTES];
+    put(&mut words, 0, letters);
+    folded(name, g, n, &words, &[coefficient]);
+}
+
+// Folds a sum of three rows with the same word.
+pub fn three(name: &[u8], g: Group, n: usize, letters: &[u8], coefficients: &[f64]) {
+    let mut words = [0u8; 3 * WORD_BYTES];
+    put(&mut words, 0, letters);
+    put(&mut words, WORD_BYTES, letters);
+    put(&mut words, 2 * WORD_BYTES, letters);
+    folded(name, g, n, &words, coefficients);
+}
+
+// Folds a sum of at most ROOM rows into lists of as many.
+pub fn folded(name: &[u8], g: Group, n: usize, words: &[u8], coefficients: &[f64]) {
+    let mut representatives = [9u8; ROOM * WORD_BYTES];
+    let mut sums = [9.0f64; ROOM];
+    let mut counts = [9u32; ROOM];
+    let bytes = words.len();
+    let rows = coefficients.len();
+    if bytes <= ROOM * WORD_BYTES {
+        if rows <= ROOM {
+            called(
+                name,
+                g,
+                n,
+                words,
+                coefficients,
+                &mut representatives[..bytes],
+                &mut sums[..rows],
+                &mut counts[..rows],
+            );
+        }
+    }
+}
+
+// Folds a sum into lists that are all nines, and prints what it comes to and what the lists hold then.
+pub fn called(
+    name: &[u8],
+    g: Group,
+    n: usize,
+    words: &[u8],
+    coefficients: &[f64],
+    representatives: &mut [u8],
+    sums: &mut [f64],
+    counts: &mut [u32],
+) {
+    lines::text(name);
+    lines::text(b": ");
+    let answer = merge::canonicalize_pauli_sum(
+        g,
+        words,
+        coefficients,
+        representatives,
+        sums,
+        counts,
+    );
+    told(answer);
+    after(n, representatives, sums, counts);
+}
+
+// How many rows there are, or the refusal.
+pub fn told(answer: Number) {
+    lines::answers::number_on(answer);
+    if let Number::Value(_) = answer {
+        lines::text(b" rows");
+    }
+}
+
+// What the lists hold: as they were, or each in full.
+fn after(n: usize, representatives: &[u8], sums: &[f64], counts: &[u32]) {
+    if nines(representatives, sums, counts) {
+        lines::text(b", the lists as they were\n");
+    } else {
+        lines::text(b"\n  words");
+        lines::lists::words(n, representatives);
+        lines::text(b"\n  coefficients");
+        lines::lists::floats(sums);
+        lines::text(b"\n  counts");
+        lines::lists::digits(counts);
+        lines::text(b"\n");
+    }
+}
+
+// Whether all three lists are nines.
+pub fn nines(representatives: &[u8], sums: &[f64], counts: &[u32]) -> bool {
+    if bytes_nine(representatives) {
+        if floats_nine(sums) {
+            return counts_nine(counts);
+        }
+    }
+    false
+}
+
+fn bytes_nine(list: &[u8]) -> bool {
+    let mut i = 0;
+    while i < list.len() {
+        if list[i] != 9 {
+            return false;
+        }
+        i += 1;
+    }
+    true
+}
+
+fn floats_nine(list: &[f64]) -> bool {
+    let mut i = 0;
+    while i < list.len() {
+        if list[i] != 9.0 {
+            return false;
+        }
+        i += 1;
+    }
+    true
+}
+
+fn counts_nine(list: &[u32]) -> bool {
+    let mut i = 0;
+    while i < list.len() {
+        if list[i] != 9 {
+            return false;
+        }
+        i += 1;
+    }
+    true
+}
