@@ -14,7 +14,7 @@ use Rattle.outcome.specs.Outcome.{Outcome, refused, answer, rule, verdict, give
 use Rattle.pauli_word.specs.declared.Ordering.{Ordering}
 use Rattle.pauli_word.specs.declared.Ordering.the-variants.{Less, Same, Greater}
 use Rattle.pauli_word.specs.Limits.{maxSites, planeLength, wordLength}
-use Rattle.pauli_word.specs.Word.{Word, lessBits, less, same}
+use Rattle.pauli_word.specs.Word.{Word, less, same}
 use Rattle.pauli_word.specs.Bytes.{planeBits, lettersIn, bytesOf}
 use Rattle.pauli_word.specs.Calls.{orderOfBits, orderOfWords}
 use Rattle.pauli_word.proofs.Words.{map-append, encode-length, decode-length, encoded-accepted, encoded-decode}
@@ -25,7 +25,7 @@ use Rattle.action.proofs.Canonical.{least-length}
 use Rattle.elements.specs.HeldGroup.{encodeAll}
 use Rattle.elements.proofs.Orbits.{below-next}
 use Rattle.group.specs.declared.Group.{Group}
-use Rattle.group.specs.Value.{generatorsOf, AcceptedGroup}
+use Rattle.group.specs.Value.{AcceptedGroup}
 use Rattle.group.proofs.MadeGroups.{held-valid}
 use Rattle.keyed.specs.Keyed.{keyOf, renamed, tableOf, firstFailing}
 use Rattle.keyed.proofs.Tables.{table-renamed, running-renamed}

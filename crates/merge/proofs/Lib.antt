@@ -2,3 +2,5 @@
 pub mod RowParts
 pub mod SumChecks
 pub mod FoldedRows
+pub mod FoldedSums
+pub mod Promises

@@ -41,7 +41,9 @@ module _ (n i : ℕ) (bytes : List ℕ) (c : Float) where
   row-clear e = rw e
 
   row-fine : verdict (rowRules n i bytes c) ≡ answer tt → clearAbove n bytes ≡ true
-  row-fine e = not-false (clearAbove n bytes) (verdict-fine (rule (Refusal.RowBitAboveSites i) (not (clearAbove n bytes))) (rule (Refusal.NotFinite i) (not (finite c)) ∷ []) e .0)
+  row-fine e =
+      let above = rule (Refusal.RowBitAboveSites i) (not (clearAbove n bytes)) in
+      not-false (clearAbove n bytes) (verdict-fine above (rule (Refusal.NotFinite i) (not (finite c)) ∷ []) e .0)
 
 -- what the checks of a row's word say of the row
 module _ (n i : ℕ) (words : List ℕ) (c : Float) (short : n ≤ maxSites) (inside : wordLength * i + wordLength ≤ length words) where
@@ -63,29 +65,34 @@ module _ (n i : ℕ) (words : List ℕ) (c : Float) (short : n ≤ maxSites) (in
 
 -- ---- the rows, one after the other
 
+-- what the checks of row i come to, and those of the rows from row i on
+abbrev ownVerdict : ℕ → List ℕ → List Float → ℕ → Outcome (Unit {0})
+ownVerdict n words cs i = verdict (rowRules n i (rowAt words i) (getD cs i nan))
+
+abbrev restVerdict : ℕ → List ℕ → List Float → ℕ → Outcome (Unit {0})
+restVerdict n words cs i = verdict (rowChecks n i (drop i (rowsIn words cs)))
+
 module _ (n : ℕ) (words : List ℕ) (cs : List Float) (i : ℕ) where
-  checks-next : i < length cs
-      → verdict (rowChecks n i (drop i (rowsIn words cs)))
-      ≡ given (verdict (rowRules n i (rowAt words i) (getD cs i nan))) (verdict (rowChecks n (suc i) (drop (suc i) (rowsIn words cs))))
+  checks-next : i < length cs → restVerdict n words cs i ≡ given (ownVerdict n words cs i) (restVerdict n words cs (suc i))
   checks-next h =
       ap (λ (rows : List (List ℕ × Float)). verdict (rowChecks n i rows))
       (drop-cons (rowsIn words cs) i ([], nan) (omega (arith, rows-length words cs))
       ∙ ap (λ (row : List ℕ × Float). row ∷ drop (suc i) (rowsIn words cs)) (rows-at words cs i ([], nan) h))
       ∙ verdict-append (rowRules n i (rowAt words i) (getD cs i nan)) (rowChecks n (suc i) (drop (suc i) (rowsIn words cs)))
 
-  pub checks-refused : (why : Refusal) → i < length cs → verdict (rowRules n i (rowAt words i) (getD cs i nan)) ≡ refusalOf why
-      → verdict (rowChecks n i (drop i (rowsIn words cs))) ≡ refusalOf why
-  checks-refused why h e = checks-next h ∙ ap (λ (v : Outcome (Unit {0})). given v (verdict (rowChecks n (suc i) (drop (suc i) (rowsIn words cs))))) e
+  checks-by : {v : Outcome (Unit {0})} → i < length cs → ownVerdict n words cs i ≡ v → restVerdict n words cs i ≡ given v (restVerdict n words cs (suc i))
+  checks-by h e = checks-next h ∙ ap (λ (v : Outcome (Unit {0})). given v (restVerdict n words cs (suc i))) e
 
-  pub checks-pass : i < length cs → verdict (rowRules n i (rowAt words i) (getD cs i nan)) ≡ answer tt
-      → verdict (rowChecks n i (drop i (rowsIn words cs))) ≡ verdict (rowChecks n (i + 1) (drop (i + 1) (rowsIn words cs)))
-  checks-pass h e =
-      checks-next h
-      ∙ ap (λ (v : Outcome (Unit {0})). given v (verdict (rowChecks n (suc i) (drop (suc i) (rowsIn words cs))))) e
-      ∙ ap (λ (j : ℕ). verdict (rowChecks n j (drop j (rowsIn words cs)))) (sym (add-one i))
+  pub checks-refused : (why : Refusal) → i < length cs → ownVerdict n words cs i ≡ refusalOf why → restVerdict n words cs i ≡ refusalOf why
+  checks-refused why h e = checks-by h e
 
-  pub checks-end : length cs ≤ i → verdict (rowChecks n i (drop i (rowsIn words cs))) ≡ answer tt
-  checks-end h = ap (λ (rows : List (List ℕ × Float)). verdict (rowChecks n i rows)) (drop-of-length-le (rowsIn words cs) {i = i} (omega (arith, rows-length words cs)))
+  pub checks-pass : i < length cs → ownVerdict n words cs i ≡ answer tt → restVerdict n words cs i ≡ restVerdict n words cs (i + 1)
+  checks-pass h e = checks-by h e ∙ ap (restVerdict n words cs) (sym (add-one i))
+
+  pub checks-end : length cs ≤ i → restVerdict n words cs i ≡ answer tt
+  checks-end h =
+      ap (λ (rows : List (List ℕ × Float)). verdict (rowChecks n i rows))
+      (drop-of-length-le (rowsIn words cs) {i = i} (omega (arith, rows-length words cs)))
 
 -- ---- rows that pass
 
@@ -94,15 +101,13 @@ given-passes (refused k vs) o e = absurd (refused-apart k vs tt e)
 given-passes (answer tt) o e = (refl, e)
 
 module _ (n : ℕ) (words : List ℕ) (cs : List Float) (pass : verdict (rowChecks n 0 (rowsIn words cs)) ≡ answer tt) where
-  row-and-rest : (i : ℕ) → i < length cs → verdict (rowChecks n i (drop i (rowsIn words cs))) ≡ answer tt
-      → (verdict (rowRules n i (rowAt words i) (getD cs i nan)) ≡ answer tt) × (verdict (rowChecks n (suc i) (drop (suc i) (rowsIn words cs))) ≡ answer tt)
-  row-and-rest i h e =
-      given-passes (verdict (rowRules n i (rowAt words i) (getD cs i nan))) (verdict (rowChecks n (suc i) (drop (suc i) (rowsIn words cs))))
-      (sym (checks-next n words cs i h) ∙ e)
+  own-and-rest : (i : ℕ) → i < length cs → restVerdict n words cs i ≡ answer tt
+      → (ownVerdict n words cs i ≡ answer tt) × (restVerdict n words cs (suc i) ≡ answer tt)
+  own-and-rest i h e = given-passes (ownVerdict n words cs i) (restVerdict n words cs (suc i)) (sym (checks-next n words cs i h) ∙ e)
 
-  rest-passes : (i : ℕ) → i ≤ length cs → verdict (rowChecks n i (drop i (rowsIn words cs))) ≡ answer tt
+  rest-passes : (i : ℕ) → i ≤ length cs → restVerdict n words cs i ≡ answer tt
   rest-passes zero h = pass
-  rest-passes (suc i) h = row-and-rest i h (rest-passes i (omega arith)) .1
+  rest-passes (suc i) h = own-and-rest i h (rest-passes i (omega arith)) .1
 
   pub accepted-rows : n ≤ maxSites → Bytes words → length words ≡ wordLength * length cs → length cs ≤ maxRows → AcceptedRows n words (length cs)
   accepted-rows short small long few = record { few = few; long = long; word = word }
@@ -112,7 +117,7 @@ module _ (n : ℕ) (words : List ℕ) (cs : List Float) (pass : verdict (rowChec
           let bytes = row-bytes words i small (omega arith) in
           let clear =
           and-eq-true-iff (clearFrom n (take planeLength (rowAt words i))) (clearFrom n (drop planeLength (rowAt words i))) .0
-          (row-fine n i (rowAt words i) (getD cs i nan) (row-and-rest i h (rest-passes i (omega arith)) .0))
+          (row-fine n i (rowAt words i) (getD cs i nan) (own-and-rest i h (rest-passes i (omega arith)) .0))
           in
           record { sites = short; long = bytes .0; small = bytes .1; xClear = clear .0; zClear = clear .1 }
 
@@ -211,3 +216,8 @@ checked-sum g words cs a b c e =
       sums = sums-agree (length words) (length cs) a b c agree;
       counts = counts-agree (length words) (length cs) a b c agree;
     }
+
+pub checked-rows :
+    {g : Group} {words : List ℕ} {cs : List Float} {a b c : ℕ} → CheckedSum g words cs a b c → Bytes words
+    → AcceptedRows (g .sites) words (length cs)
+checked-rows {g} {words} {cs} s small = accepted-rows (g .sites) words cs (s .rows) (value-few g (s .value)) small (s .long) (s .few)

@@ -11,7 +11,10 @@ use Rattle.merge.proofs.checks.lists_checked.Statement.{statement}
 use Rattle.merge.proofs.checks.lists_checked.Tie as tie
 
 -- the lists agree
-agree : (c : tie.Else1) → let a = c .before .before .before .before .args in rowsAgree (length (now (a .words))) (length (now (a .coefficients))) (a .representatives) (a .sums) (a .counts) ≡ true
+agree :
+    (c : tie.Else1)
+    → let a = c .before .before .before .before .args in
+    rowsAgree (length (now (a .words))) (length (now (a .coefficients))) (a .representatives) (a .sums) (a .counts) ≡ true
 agree c = sym (c .before .rows-agree .ensures) ∙ not-false (c .before .rows-agree .result) (c .if1 .left)
 
 rows-agree-requires : tie.Need-rows-agree-requires

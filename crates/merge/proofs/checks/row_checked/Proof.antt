@@ -1,14 +1,23 @@
 -- `checks::row_checked` meets its contract: the word's checks and the test of the coefficient decide.
-use mathlib.Core.Path.{sym, ap, _∙_}
+use mathlib.Core.Path.{_≡_, sym, ap, _∙_}
 use native.Mathlib.Omega.{arith}
 use denote.Ref.{now}
 use lib.ListN.{getD}
 use lib.Ieee.{nan}
 use borrow.Author.Needs.{needs}
-use Rattle.outcome.specs.Outcome.{outcomeOfVerdict}
+use Rattle.outcome.specs.Outcome.{answer, verdict, outcomeOfVerdict}
+use Rattle.pauli_word.specs.Calls.{wordChecks}
+use Rattle.merge.proofs.RowParts.{part}
 use Rattle.merge.proofs.SumChecks.{part-above, part-finite, part-infinite}
 use Rattle.merge.proofs.checks.row_checked.Statement.{statement}
 use Rattle.merge.proofs.checks.row_checked.Tie as tie
+
+-- the word's checks pass
+word-passes :
+    (c : tie.After-enum-told)
+    → let a = c .before .before .before .before .before .before .args in
+    answer tt ≡ verdict (wordChecks (a .sites) (part (now (a .words)) (a .i)))
+word-passes c = sym (ap outcomeOfVerdict (c .enum-told .given .1)) ∙ c .before .before .checked .ensures
 
 mul-at : tie.Need-mul-at
 mul-at c = search needs
@@ -56,7 +65,7 @@ returns-2 c =
     let s = t .before .before .before .before .before .before in
     sym
     (part-finite (s .args .sites) (s .args .i) (now (s .args .words)) (getD (now (s .args .coefficients)) (s .args .i) nan) (s .pre .0) (omega arith)
-    (sym (ap outcomeOfVerdict (t .enum-told .given .1)) ∙ t .before .before .checked .ensures) (sym (c .before .is-finite .ensures) ∙ c .if1 .taken))
+    (word-passes t) (sym (c .before .is-finite .ensures) ∙ c .if1 .taken))
 
 returns-3 : tie.Need-returns-3
 returns-3 c =
@@ -64,7 +73,7 @@ returns-3 c =
     let s = t .before .before .before .before .before .before in
     sym
     (part-infinite (s .args .sites) (s .args .i) (now (s .args .words)) (getD (now (s .args .coefficients)) (s .args .i) nan) (s .pre .0) (omega arith)
-    (sym (ap outcomeOfVerdict (t .enum-told .given .1)) ∙ t .before .before .checked .ensures) (sym (c .before .is-finite .ensures) ∙ c .if1 .left))
+    (word-passes t) (sym (c .before .is-finite .ensures) ∙ c .if1 .left))
 
 pub row-checked-spec : {M : Type 1} → statement M
 row-checked-spec =

@@ -13,7 +13,9 @@ use Rattle.merge.proofs.checks.rows_checked.Statement.{statement}
 use Rattle.merge.proofs.checks.rows_checked.Tie as tie
 
 abbrev Inv-loop : tie.InvT-loop
-Inv-loop sites words coefficients i₀ i = (i ≤ length coefficients) × (verdict (rowChecks sites 0 (rowsIn words coefficients)) ≡ verdict (rowChecks sites i (drop i (rowsIn words coefficients))))
+Inv-loop sites words coefficients i₀ i =
+    (i ≤ length coefficients)
+    × (verdict (rowChecks sites 0 (rowsIn words coefficients)) ≡ verdict (rowChecks sites i (drop i (rowsIn words coefficients))))
 
 abbrev μ-loop : tie.MeasureT-loop
 μ-loop sites words coefficients i₀ i = length coefficients - i

@@ -1,11 +1,16 @@
 -- `checks::sum_checked` meets its contract: the value's checks refuse, or they pass and the lists' checks decide.
-use mathlib.Core.Path.{sym, ap, _∙_}
+use mathlib.Core.Path.{_≡_, sym, ap, _∙_}
 use denote.Ref.{now}
 use borrow.Author.Needs.{needs}
-use Rattle.outcome.specs.Outcome.{outcomeOfVerdict}
+use Rattle.outcome.specs.Outcome.{answer, verdict, outcomeOfVerdict}
+use Rattle.group.specs.Calls.{valueChecks}
 use Rattle.merge.proofs.SumChecks.{value-few, sum-refused, sum-lists}
 use Rattle.merge.proofs.checks.sum_checked.Statement.{statement}
 use Rattle.merge.proofs.checks.sum_checked.Tie as tie
+
+-- the value's checks pass
+value-passes : (c : tie.After-enum-told) → verdict (valueChecks (c .before .before .before .before .before .args .group)) ≡ answer tt
+value-passes c = sym (c .before .before .value-checked .ensures) ∙ ap outcomeOfVerdict (c .enum-told .given .1)
 
 value-checked-requires : tie.Need-value-checked-requires
 value-checked-requires c κs = search needs
@@ -19,7 +24,7 @@ enum-told c = search needs
 lists-checked-requires : tie.Need-lists-checked-requires
 lists-checked-requires c κs =
     value-few (c .before .before .before .before .before .args .group)
-    (sym (c .before .before .value-checked .ensures) ∙ ap outcomeOfVerdict (c .enum-told .given .1))
+    (value-passes c)
 
 returns : tie.Need-returns
 returns c =
@@ -35,7 +40,7 @@ returns-2 c =
     c .lists-checked .ensures
     ∙ sym
     (sum-lists (a .group) (now (a .words)) (now (a .coefficients)) (a .representatives) (a .sums) (a .counts)
-    (sym (t .before .before .value-checked .ensures) ∙ ap outcomeOfVerdict (t .enum-told .given .1)))
+    (value-passes t))
 
 pub sum-checked-spec : {M : Type 1} → statement M
 sum-checked-spec =

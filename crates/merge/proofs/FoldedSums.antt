@@ -1,0 +1,160 @@
+-- What a folded sum's table holds, key by key, and where a fold that overflows does so first.
+-- The fact that carries it: what a word comes to is the fold of the coefficients of its rows (`table-value`), of which the table has each word once.
+use Prim.Native.Nat.{ℕ, _+_}
+use mathlib.Core.Path.{_≡_, refl, sym, ap, _∙_}
+use mathlib.Core.Logic.{_⊎_, inl, inr}
+use mathlib.Core.Bool.{Bool, true, false, not, false≢true}
+use mathlib.Core.List.{List, [], _∷_, map}
+use native.Mathlib.Nat.{zero-add}
+use native.Mathlib.Omega.{arith}
+use lib.ListN.{length}
+use lib.Ieee.{Float, binary64, add}
+use borrow.Author.Tests.{not-false}
+use Rattle.outcome.specs.declared.Refusal.the-variants as Refusal
+use Rattle.outcome.specs.Outcome.{refused, answer, refusalOf, rule, unless}
+use Rattle.outcome.proofs.Outcomes.{refused-apart, one-answered}
+use Rattle.pauli_word.specs.Word.{Word, less, same}
+use Rattle.pauli_word.specs.Bytes.{lettersIn}
+use Rattle.pauli_word.proofs.Words.{decode-length}
+use Rattle.pauli_word.proofs.WordOrder.{less-irrefl, less-trans, less-total, same-refl, same-eq}
+use Rattle.action.specs.Lists.{Member, every, total}
+use Rattle.action.specs.Orbit.{isRepresentative}
+use Rattle.action.proofs.Lists.{every-elim, total-cong, total-map}
+use Rattle.action.proofs.Canonical.{least-own}
+use Rattle.group.specs.declared.Group.{Group}
+use Rattle.group.specs.Value.{generatorsOf, AcceptedGroup}
+use Rattle.group.proofs.MadeGroups.{held-valid}
+use Rattle.keyed.specs.Keyed.{Orders, Equality, rising, keyOf, leftFold, foldKey, tableOf, running, firstFailing}
+use Rattle.keyed.proofs.Rising.{rising-rising, rising-member, of-rising-member}
+use Rattle.keyed.proofs.Folds.{contents-some, running-length, firstFailing-first}
+use Rattle.keyed.proofs.Tables.{table-keys, table-key, table-value, table-running}
+use Rattle.keyed.proofs.Sums.{contents-total}
+use Rattle.row_lists.specs.Rows.{rowAt, zero}
+use Rattle.sum_rows.specs.declared.RowSum.{RowSum}
+use Rattle.sum_rows.specs.Sums.{noRows, addRow, finiteSum, overflow, foldOutcome}
+use Rattle.merge.specs.Calls.{representative, wordSums, foldedSum, AcceptedRows}
+use Rattle.merge.specs.Promises.{inputRows, coefficientsOf, FoldedRow, FoldedTable, OverflowsAt}
+use Rattle.merge.proofs.FoldedRows.{representatives-length, representative-of, representative-long}
+
+-- ---- words of one length are keys
+
+pub word-orders : (n : ℕ) → Orders (λ w. length w ≡ n) less
+word-orders n = record { irrefl = less-irrefl; trans = less-trans; total = neither-less }
+  where
+    neither-less : (v w : Word) → length v ≡ n → length w ≡ n → less v w ≡ false → less w v ≡ false → v ≡ w
+    neither-less v w lv lw e f = go (less-total v w (lv ∙ sym lw))
+      where
+        go : (less v w ≡ true) ⊎ ((v ≡ w) ⊎ (less w v ≡ true)) → v ≡ w
+        go (inl h) = absurd (false≢true (sym e ∙ h))
+        go (inr (inl k)) = k
+        go (inr (inr h)) = absurd (false≢true (sym f ∙ h))
+
+pub word-equality : Equality same
+word-equality = record { reflexive = same-refl; equal = same-eq }
+
+-- ---- coefficients added one after the other
+
+fold-coefficient : (cs : List Float) (s : RowSum) → leftFold addRow s cs .coefficient ≡ leftFold (add binary64) (s .coefficient) cs
+unfolding leftFold addRow
+fold-coefficient [] s = refl
+fold-coefficient (c ∷ cs) s = fold-coefficient cs (addRow s c)
+
+fold-rows : (cs : List Float) (s : RowSum) → leftFold addRow s cs .rows ≡ s .rows + length cs
+unfolding leftFold addRow
+fold-rows [] s = omega arith
+fold-rows (c ∷ cs) s = fold-rows cs (addRow s c) ∙ omega arith
+
+-- ---- the table
+
+module _ (g : Group) (words : List ℕ) (cs : List Float) where
+  abbrev input : List (Word × Float)
+  input = inputRows g words cs
+
+  abbrev sums : List RowSum
+  sums = running wordSums input
+
+  -- what a word comes to
+  abbrev comesTo : Word → RowSum
+  comesTo w = foldKey wordSums w input
+
+  comes-counted : (w : Word) → comesTo w .rows ≡ length (coefficientsOf g words cs w)
+  unfolding foldKey
+  comes-counted w = fold-rows (coefficientsOf g words cs w) noRows ∙ zero-add (length (coefficientsOf g words cs w))
+
+  comes-summed : (w : Word) → comesTo w .coefficient ≡ leftFold (add binary64) zero (coefficientsOf g words cs w)
+  unfolding foldKey
+  comes-summed w = fold-coefficient (coefficientsOf g words cs w) noRows
+
+  module _ (group : AcceptedGroup g) (rows : AcceptedRows (g .sites) words (length cs)) where
+    -- a representative is the least word of its own orbit
+    representative-canonical : (w : Word) → Member w (map keyOf input) → isRepresentative (generatorsOf g) w ≡ true
+    unfolding isRepresentative
+    representative-canonical w m =
+        let (i, h, e) = representative-of g words cs w m in
+        rw (e, least-own (held-valid g group) (lettersIn (g .sites) (rowAt words i)) (decode-length (rows .word i h)))
+        (same-refl (representative g (rowAt words i)))
+
+    all-counted : total (λ row. row .1 .rows) (tableOf wordSums input) ≡ length cs
+    unfolding tableOf
+    all-counted =
+        total-map (λ row. row .1 .rows) (λ w. (w, comesTo w)) (rising less (map keyOf input))
+        ∙ total-cong _ _ (rising less (map keyOf input)) (λ w m. comes-counted w)
+        ∙ contents-total wordSums (word-orders (g .sites)) word-equality input (representative-long g words cs group rows)
+        ∙ representatives-length g words cs
+
+    module _ (small : every finiteSum sums ≡ true) where
+      row-folded : (w : Word) (s : RowSum) → Member (w, s) (tableOf wordSums input) → FoldedRow g words cs w s
+      row-folded w s m =
+          let e : s ≡ comesTo w = table-value wordSums input w s m in
+          let counted : s .rows ≡ length (coefficientsOf g words cs w) = ap (λ (t : RowSum). t .rows) e ∙ comes-counted w in
+          let key = table-key wordSums input w s m in
+          record {
+            canonical = representative-canonical w key;
+            positive = rw counted (contents-some wordSums word-equality w input key);
+            counted = counted;
+            summed = ap (λ (t : RowSum). t .coefficient) e ∙ comes-summed w;
+            isFinite = every-elim finiteSum sums small s (table-running wordSums word-equality input w s m);
+          }
+
+      pub table-folded : FoldedTable g words cs (tableOf wordSums input)
+      table-folded =
+          let keys = table-keys wordSums input in
+          record {
+            inOrder = rw keys (rising-rising less (map keyOf input));
+            fromInput = λ w m. of-rising-member less (map keyOf input) w (rw keys at m);
+            allInput = λ w m. rw keys (rising-member (word-orders (g .sites)) (map keyOf input) (representative-long g words cs group rows) w m);
+            row = row-folded;
+            allCounted = all-counted;
+          }
+
+  -- ---- what the outcome says
+
+  pub answered-table : (table : List (Word × RowSum)) → foldedSum g words cs ≡ answer table
+      → (every finiteSum sums ≡ true) × (tableOf wordSums input ≡ table)
+  unfolding foldedSum foldOutcome
+  answered-table table e =
+      let one = one-answered (overflow wordSums input) (tableOf wordSums input) table e in
+      (not-false (every finiteSum sums) (one .0), one .1)
+
+  pub overflows-first : every finiteSum sums ≡ false → OverflowsAt g words cs (firstFailing finiteSum sums)
+  overflows-first e =
+      let at = firstFailing-first finiteSum sums noRows e in
+      record {
+        inside = omega (arith, at .0, running-length wordSums input, representatives-length g words cs);
+        fails = at .1;
+        first = at .2;
+      }
+
+  pub refused-overflows : (k : ℕ) (vs : List ℕ) → foldedSum g words cs ≡ refused k vs
+      → (i : ℕ) × (foldedSum g words cs ≡ refusalOf (Refusal.SumNotFinite i)) × OverflowsAt g words cs i
+  unfolding foldedSum foldOutcome
+  refused-overflows k vs e = go (every finiteSum sums) refl e
+    where
+      i : ℕ
+      i = firstFailing finiteSum sums
+
+      go : (t : Bool) → every finiteSum sums ≡ t
+          → unless (rule (Refusal.SumNotFinite i) (not t) ∷ []) (answer (tableOf wordSums input)) ≡ refused k vs
+          → (i : ℕ) × (foldedSum g words cs ≡ refusalOf (Refusal.SumNotFinite i)) × OverflowsAt g words cs i
+      go true h f = absurd (refused-apart k vs (tableOf wordSums input) (sym f))
+      go false h f = (i, e ∙ sym f, overflows-first h)
