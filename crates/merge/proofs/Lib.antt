@@ -2,5 +2,6 @@
 pub mod RowParts
 pub mod SumChecks
 pub mod FoldedRows
+pub mod SumCalls
 pub mod FoldedSums
 pub mod Promises
