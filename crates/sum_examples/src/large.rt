@@ -1,5 +1,6 @@
 // Sums of as many rows as there may be, and of one more.
 use crate::shown;
+use crate::shown::Sizes;
 use pauli_word::WORD_BYTES;
 
 // As many rows as there may be, and one more.
@@ -34,7 +35,8 @@ pub fn full() {
 pub fn different() {
     let mut words = [0u8; ROWS * WORD_BYTES];
     let mut coefficients = [0.0f64; ROWS];
-    numbered(&mut words, &mut coefficients);
+    numbered(&mut words);
+    counted(&mut coefficients);
     let mut representatives = [9u8; ROWS * WORD_BYTES];
     let mut sums = [9.0f64; ROWS];
     let mut counts = [9u32; ROWS];
@@ -48,12 +50,17 @@ pub fn different() {
         &mut counts,
     ));
     lines::text(b"\n");
-    row(12, 0, &representatives, &sums, &counts);
-    row(12, 1, &representatives, &sums, &counts);
-    row(12, 2, &representatives, &sums, &counts);
-    row(12, 2048, &representatives, &sums, &counts);
-    row(12, 2731, &representatives, &sums, &counts);
-    row(12, 4095, &representatives, &sums, &counts);
+    some(&representatives, &sums, &counts);
+}
+
+// Some rows of the lists, of words of 12 sites.
+fn some(representatives: &[u8], sums: &[f64], counts: &[u32]) {
+    row(12, 0, representatives, sums, counts);
+    row(12, 1, representatives, sums, counts);
+    row(12, 2, representatives, sums, counts);
+    row(12, 2048, representatives, sums, counts);
+    row(12, 2731, representatives, sums, counts);
+    row(12, 4095, representatives, sums, counts);
 }
 
 // 23: one row more. 22 comes before it, 17 after it.
@@ -67,21 +74,24 @@ pub fn too_many() {
 
 // Folds a sum of so many rows on a ring of 8 sites, with as many counts.
 fn many(name: &[u8], words: &[u8], numbers: usize) {
-    let mut representatives = [9u8; MORE * WORD_BYTES];
-    let mut sums = [9.0f64; MORE];
-    let mut counts = [9u32; MORE];
-    if numbers <= MORE {
-        shown::called(
-            name,
-            group::chain_1d(8).group,
-            8,
-            words,
-            &[1.0f64; MORE],
-            &mut representatives,
-            &mut sums,
-            &mut counts[..numbers],
-        );
-    }
+    let sizes = Sizes {
+        words: MORE * WORD_BYTES,
+        rows: MORE,
+        representatives: MORE * WORD_BYTES,
+        sums: MORE,
+        counts: numbers,
+    };
+    shown::cut(
+        name,
+        group::chain_1d(8).group,
+        8,
+        words,
+        &[1.0f64; MORE],
+        &mut [9u8; MORE * WORD_BYTES],
+        &mut [9.0f64; MORE],
+        &mut [9u32; MORE],
+        sizes,
+    );
 }
 
 // A row of the lists.
@@ -108,12 +118,18 @@ fn row(n: usize, k: usize, representatives: &[u8], sums: &[f64], counts: &[u32])
 
 // Each row an X, at site 0, 1, .., 7, 0 and so on.
 fn turning(words: &mut [u8]) {
-    let mut at = 0;
-    let mut site = 0;
-    while at < words.len() {
-        words[at] = bit(site);
-        site = (site + 1) % 8;
-        at += WORD_BYTES;
+    let mut i = 0;
+    while i < words.len() {
+        words[i] = turning_byte(i);
+        i += 1;
+    }
+}
+
+fn turning_byte(i: usize) -> u8 {
+    if i % WORD_BYTES == 0 {
+        bit(i / WORD_BYTES % 8)
+    } else {
+        0
     }
 }
 
@@ -130,25 +146,31 @@ fn bit(site: usize) -> u8 {
     }
 }
 
-// Row i has the binary digits of i as X at the sites, the lowest at site 0, and the coefficient i.
-fn numbered(words: &mut [u8], coefficients: &mut [f64]) {
-    let mut i = 0usize;
-    let mut at = 0;
-    let mut c = 0.0;
-    while i < coefficients.len() {
-        coefficients[i] = c;
-        number(words, at, i);
-        c = c + 1.0;
-        at = (at + WORD_BYTES) % (ROWS * WORD_BYTES);
+// Row r has the binary digits of r as X at its sites, the lowest at site 0.
+fn numbered(words: &mut [u8]) {
+    let mut i = 0;
+    while i < words.len() {
+        words[i] = numbered_byte(i);
         i += 1;
     }
 }
 
-fn number(words: &mut [u8], at: usize, i: usize) {
-    if at < words.len() {
-        words[at] = (i % 256) as u8;
-        if at + 1 < words.len() {
-            words[at + 1] = (i / 256 % 16) as u8;
-        }
+fn numbered_byte(i: usize) -> u8 {
+    let r = i / WORD_BYTES;
+    match i % WORD_BYTES {
+        0 => (r % 256) as u8,
+        1 => (r / 256 % 16) as u8,
+        _ => 0,
+    }
+}
+
+// The numbers 0.0, 1.0, ..
+fn counted(coefficients: &mut [f64]) {
+    let mut i = 0;
+    let mut c = 0.0;
+    while i < coefficients.len() {
+        coefficients[i] = c;
+        c = c + 1.0;
+        i += 1;
     }
 }

@@ -1,6 +1,7 @@
 // Sums that are refused. After each refusal the lists are looked at: as they were, but for 25, which leaves zeros.
 use crate::shown;
 use crate::shown::ROOM;
+use crate::shown::Sizes;
 use group::Group;
 use pauli_word::WORD_BYTES;
 
@@ -109,30 +110,33 @@ fn sizes(name: &[u8], words: usize, rows: usize, out: usize, sums: usize, counts
 }
 
 // The same with any group.
-fn sized(name: &[u8], g: Group, words: usize, rows: usize, out: usize, sums: usize, counts: usize) {
-    let mut representatives = [9u8; ROOM * WORD_BYTES];
-    let mut coefficients = [9.0f64; ROOM];
-    let mut numbers = [9u32; ROOM];
-    if words <= ROOM * WORD_BYTES {
-        if out <= ROOM * WORD_BYTES {
-            if in_room(rows, sums, counts) {
-                shown::called(
-                    name,
-                    g,
-                    4,
-                    &[0u8; ROOM * WORD_BYTES][..words],
-                    &[9.0f64; ROOM][..rows],
-                    &mut representatives[..out],
-                    &mut coefficients[..sums],
-                    &mut numbers[..counts],
-                );
-            }
-        }
-    }
-}
-
-fn in_room(rows: usize, sums: usize, counts: usize) -> bool {
-    rows <= ROOM && sums <= ROOM && counts <= ROOM
+fn sized(
+    name: &[u8],
+    g: Group,
+    words: usize,
+    rows: usize,
+    representatives: usize,
+    sums: usize,
+    counts: usize,
+) {
+    let sizes = Sizes {
+        words,
+        rows,
+        representatives,
+        sums,
+        counts,
+    };
+    shown::cut(
+        name,
+        g,
+        4,
+        &[0u8; ROOM * WORD_BYTES],
+        &[9.0f64; ROOM],
+        &mut [9u8; ROOM * WORD_BYTES],
+        &mut [9.0f64; ROOM],
+        &mut [9u32; ROOM],
+        sizes,
+    );
 }
 
 // 1 and 14 of the group, before 22.

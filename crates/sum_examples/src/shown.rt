@@ -10,19 +10,23 @@ pub const ROOM: usize = 4;
 pub fn put(list: &mut [u8], at: usize, letters: &[u8]) {
     let word = pauli_word::from_text(letters).word;
     if at <= list.len() {
-        write(&word, &mut list[at..]);
+        if WORD_BYTES <= list.len() - at {
+            write(&word, &mut list[at..at + WORD_BYTES]);
+        }
     }
 }
 
-// Writes bytes over the front of a list, as far as it goes.
+// Writes bytes over a list, and zeros after them.
 fn write(bytes: &[u8], list: &mut [u8]) {
     let mut i = 0;
-    while i < bytes.len() {
-        if i < list.len() {
-            list[i] = bytes[i];
-        }
+    while i < list.len() {
+        list[i] = byte(bytes, i);
         i += 1;
     }
+}
+
+fn byte(bytes: &[u8], i: usize) -> u8 {
+    if i < bytes.len() { bytes[i] } else { 0 }
 }
 
 // Folds a sum with one row.
@@ -43,29 +47,84 @@ pub fn three(name: &[u8], g: Group, n: usize, letters: &[u8], coefficients: &[f6
 
 // Folds a sum of at most ROOM rows into lists of as many.
 pub fn folded(name: &[u8], g: Group, n: usize, words: &[u8], coefficients: &[f64]) {
+    let sizes = Sizes {
+        words: words.len(),
+        rows: coefficients.len(),
+        representatives: words.len(),
+        sums: coefficients.len(),
+        counts: coefficients.len(),
+    };
     let mut representatives = [9u8; ROOM * WORD_BYTES];
     let mut sums = [9.0f64; ROOM];
     let mut counts = [9u32; ROOM];
-    let bytes = words.len();
-    let rows = coefficients.len();
-    if bytes <= ROOM * WORD_BYTES {
-        if rows <= ROOM {
-            called(
-                name,
-                g,
-                n,
-                words,
-                coefficients,
-                &mut representatives[..bytes],
-                &mut sums[..rows],
-                &mut counts[..rows],
-            );
-        }
+    cut(
+        name,
+        g,
+        n,
+        words,
+        coefficients,
+        &mut representatives,
+        &mut sums,
+        &mut counts,
+        sizes,
+    );
+}
+
+// The lengths of the lists of a call.
+pub struct Sizes {
+    pub words: usize,
+    pub rows: usize,
+    pub representatives: usize,
+    pub sums: usize,
+    pub counts: usize,
+}
+
+// Folds a sum in the fronts of lists, of these lengths; nothing where a list is shorter.
+pub fn cut(
+    name: &[u8],
+    g: Group,
+    n: usize,
+    words: &[u8],
+    coefficients: &[f64],
+    representatives: &mut [u8],
+    sums: &mut [f64],
+    counts: &mut [u32],
+    sizes: Sizes,
+) {
+    let bytes = sizes.words;
+    let rows = sizes.rows;
+    let out = sizes.representatives;
+    let values = sizes.sums;
+    let numbers = sizes.counts;
+    if words.len() < bytes {
+        return;
     }
+    if coefficients.len() < rows {
+        return;
+    }
+    if representatives.len() < out {
+        return;
+    }
+    if sums.len() < values {
+        return;
+    }
+    if counts.len() < numbers {
+        return;
+    }
+    called(
+        name,
+        g,
+        n,
+        &words[0..bytes],
+        &coefficients[0..rows],
+        &mut representatives[0..out],
+        &mut sums[0..values],
+        &mut counts[0..numbers],
+    );
 }
 
 // Folds a sum into lists that are all nines, and prints what it comes to and what the lists hold then.
-pub fn called(
+fn called(
     name: &[u8],
     g: Group,
     n: usize,
