@@ -1,9 +1,9 @@
--- `own` meets its contract. The loop's invariant: the positions of the first k places have their owners, and no owner is too large.
+-- `places::own` meets its contract. The loop's invariant: the positions of the first k places have their owners, and no owner is too large.
 use Prim.Native.Nat.{_-_, _≤_}
 use native.Mathlib.Omega.{arith}
 use Rattle.row_lists.proofs.Arranging.{Owning, owning-start, owning-next, owning-end}
-use Rattle.row_lists.proofs.own.Statement.{statement}
-use Rattle.row_lists.proofs.own.Tie as tie
+use Rattle.row_lists.proofs.places.own.Statement.{statement}
+use Rattle.row_lists.proofs.places.own.Tie as tie
 
 abbrev Inv-loop : tie.InvT-loop
 Inv-loop positions used owners₀ k₀ owners k = (k ≤ used) × Owning positions owners k

@@ -1,12 +1,12 @@
--- `place_rows` meets its contract. The loop's invariant: the rows asked for are in the first k places, and the places from k on wait for theirs.
+-- `places::place_rows` meets its contract. The loop's invariant: the rows asked for are in the first k places, and the places from k on wait for theirs.
 use Prim.Native.Nat.{_-_, _≤_}
 use mathlib.Core.Path.{refl, sym, _∙_}
 use native.Mathlib.Omega.{arith}
 use Rattle.row_lists.specs.Rows.{maxRows}
 use Rattle.row_lists.proofs.Arranging.{positions-all, zeros-small}
 use Rattle.row_lists.proofs.Placing.{Placing, placing-start, placing-next, placing-end}
-use Rattle.row_lists.proofs.place_rows.Statement.{statement}
-use Rattle.row_lists.proofs.place_rows.Tie as tie
+use Rattle.row_lists.proofs.places.place_rows.Statement.{statement}
+use Rattle.row_lists.proofs.places.place_rows.Tie as tie
 
 abbrev Inv-loop : tie.InvT-loop
 Inv-loop positions₀ used words₀ sums₀ counts₀ owners₀ k₀ positions words sums counts owners k = (k ≤ used) × Placing positions₀ words₀ sums₀ counts₀ used positions owners words sums counts k
