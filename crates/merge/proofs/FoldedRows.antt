@@ -31,7 +31,7 @@ use Rattle.keyed.specs.Keyed.{keyOf, renamed, tableOf, firstFailing}
 use Rattle.keyed.proofs.Tables.{table-renamed, running-renamed}
 use Rattle.row_lists.specs.Rows.{rowAt}
 use Rattle.row_lists.specs.Rows as Rows
-use Rattle.sum_rows.specs.declared.RowSum.{RowSum}
+use Rattle.sum_rows.specs.declared.row_sum.RowSum.{RowSum}
 use Rattle.sum_rows.specs.Sums.{finiteSum, overflow, foldOutcome, sumsFilled, countsFilled, handedBack}
 use Rattle.sum_rows.specs.Rows.{rowsIn, lessBytes, byteSums}
 use Rattle.sum_rows.proofs.RowKeys.{rows-length, rows-next}

@@ -30,7 +30,7 @@ use Rattle.keyed.proofs.Folds.{contents-some, running-length, firstFailing-firs
 use Rattle.keyed.proofs.Tables.{table-keys, table-key, table-value, table-running}
 use Rattle.keyed.proofs.Sums.{contents-total}
 use Rattle.row_lists.specs.Rows.{rowAt, zero}
-use Rattle.sum_rows.specs.declared.RowSum.{RowSum}
+use Rattle.sum_rows.specs.declared.row_sum.RowSum.{RowSum}
 use Rattle.sum_rows.specs.Sums.{noRows, addRow, finiteSum, overflow, foldOutcome}
 use Rattle.merge.specs.Calls.{representative, wordSums, foldedSum, AcceptedRows}
 use Rattle.merge.specs.Promises.{inputRows, coefficientsOf, FoldedRow, FoldedTable, OverflowsAt}

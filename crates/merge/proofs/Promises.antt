@@ -11,7 +11,7 @@ use Rattle.outcome.specs.Outcome.{refused, answer, refusalOf}
 use Rattle.pauli_word.specs.Word.{Word}
 use Rattle.group.specs.declared.Group.{Group}
 use Rattle.group.specs.Value.{AcceptedGroup}
-use Rattle.sum_rows.specs.declared.RowSum.{RowSum}
+use Rattle.sum_rows.specs.declared.row_sum.RowSum.{RowSum}
 use Rattle.merge.specs.Calls.{foldedSum, AcceptedRows}
 use Rattle.merge.specs.Promises.{FoldedTable, OverflowsAt}
 use Rattle.merge.proofs.FoldedSums.{table-folded, answered-table, refused-overflows}

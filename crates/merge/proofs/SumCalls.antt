@@ -18,7 +18,7 @@ use Rattle.group.specs.declared.Group.{Group}
 use Rattle.group.specs.Value.{AcceptedGroup}
 use Rattle.keyed.specs.Keyed.{renamed}
 use Rattle.row_lists.specs.Rows.{rowAt}
-use Rattle.sum_rows.specs.declared.RowSum.{RowSum}
+use Rattle.sum_rows.specs.declared.row_sum.RowSum.{RowSum}
 use Rattle.sum_rows.specs.Sums.{foldOutcome, wordsFilled, sumsFilled, countsFilled, handedBack}
 use Rattle.sum_rows.specs.Rows.{rowsIn, byteSums}
 use Rattle.merge.specs.Calls.{sumChecks, foldedSum, sumOutcome, afterChecks, wordsAfter, sumsAfter, countsAfter, representative, representativesOf, AcceptedRows}

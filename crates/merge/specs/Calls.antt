@@ -20,7 +20,7 @@ use Rattle.group.specs.Value.{generatorsOf}
 use Rattle.group.specs.Calls.{valueChecks}
 use Rattle.keyed.specs.Keyed.{Fold, renamed}
 use Rattle.row_lists.specs.Rows.{maxRows, rowAt}
-use Rattle.sum_rows.specs.declared.RowSum.{RowSum}
+use Rattle.sum_rows.specs.declared.row_sum.RowSum.{RowSum}
 use Rattle.sum_rows.specs.Sums.{finite, sumsBy, foldOutcome, wordsFilled, sumsFilled, countsFilled, handedBack}
 use Rattle.sum_rows.specs.Rows.{rowsIn}
 

@@ -12,7 +12,7 @@ use Rattle.group.specs.declared.Group.{Group}
 use Rattle.group.specs.Value.{generatorsOf}
 use Rattle.keyed.specs.Keyed.{Rising, keyOf, contentsOf, leftFold, running}
 use Rattle.row_lists.specs.Rows.{zero}
-use Rattle.sum_rows.specs.declared.RowSum.{RowSum}
+use Rattle.sum_rows.specs.declared.row_sum.RowSum.{RowSum}
 use Rattle.sum_rows.specs.Sums.{finite, noRows}
 use Rattle.sum_rows.specs.Rows.{rowsIn}
 use Rattle.merge.specs.Calls.{representativeRows, wordSums}

@@ -26,7 +26,7 @@ pub fn row_checked(sites: usize, words: &[u8], coefficients: &[f64], i: usize) -
     let Verdict::Accepted = pauli_word::inner::checked(sites, &words[at..end]) else {
         return Verdict::Refused(Refusal::RowBitAboveSites(i));
     };
-    if sum_rows::is_finite(coefficients[i]) {
+    if sum_rows::row_sum::is_finite(coefficients[i]) {
         Verdict::Accepted
     } else {
         Verdict::Refused(Refusal::NotFinite(i))

@@ -42,7 +42,7 @@ pub fn canonicalize_pauli_sum(
         Verdict::Refused(why) => Number::Refused(why),
         Verdict::Accepted => {
             rows::representatives(group, words, coefficients.len(), representatives);
-            sum_rows::fold(coefficients, representatives, sums, counts)
+            sum_rows::fold::fold_rows(coefficients, representatives, sums, counts)
         }
     }
 }

@@ -17,7 +17,7 @@ use Rattle.keyed.proofs.Rising.{rising-rising, rising-places}
 use Rattle.keyed.proofs.Tables.{getD-map, table-keys}
 use Rattle.row_lists.specs.Rows.{maxRows, zero, rowAt, joinRows, arrangedWords, arranged}
 use Rattle.row_lists.specs.Arranging.{Positions}
-use Rattle.sum_rows.specs.declared.RowSum.{RowSum}
+use Rattle.sum_rows.specs.declared.row_sum.RowSum.{RowSum}
 use Rattle.sum_rows.specs.Sums.{overflow, foldOutcome, wordsFilled, sumsFilled, countsFilled, handedBack}
 use Rattle.sum_rows.specs.Rows.{rowsIn, lessBytes, byteSums}
 use Rattle.sum_rows.specs.Held.{Held, entryAt}

@@ -15,7 +15,7 @@ use Rattle.action.specs.Lists.{every}
 use Rattle.keyed.specs.Keyed.{foldKey, tableOf, runningFrom, running}
 use Rattle.keyed.proofs.Folds.{every-append, every-failing, firstFailing-at, running-length, running-split, running-next}
 use Rattle.row_lists.specs.Rows.{rowAt}
-use Rattle.sum_rows.specs.declared.RowSum.{RowSum}
+use Rattle.sum_rows.specs.declared.row_sum.RowSum.{RowSum}
 use Rattle.sum_rows.specs.Sums.{finiteSum, foldOutcome}
 use Rattle.sum_rows.specs.Rows.{rowsIn, byteSums}
 use Rattle.sum_rows.specs.Held.{entryAt, Held, sumFinite}

@@ -23,7 +23,7 @@ use Rattle.keyed.proofs.Rising.{insert-found, insert-free, slot-found-below, sl
 use Rattle.keyed.proofs.Folds.{not-same, contents-length, fold-own, fold-other, fold-none}
 use Rattle.keyed.proofs.Tables.{map-cong, map-insertAt, keysOf, valueOf, table-keys, table-value}
 use Rattle.row_lists.specs.Rows.{maxRows, rowAt}
-use Rattle.sum_rows.specs.declared.RowSum.{RowSum}
+use Rattle.sum_rows.specs.declared.row_sum.RowSum.{RowSum}
 use Rattle.sum_rows.specs.Sums.{noRows, addRow, finiteSum}
 use Rattle.sum_rows.specs.Rows.{rowsIn, lessBytes, byteSums}
 use Rattle.sum_rows.specs.Held.{entryAt, Held, sumFinite, Places}

@@ -11,7 +11,7 @@ use Rattle.outcome.specs.declared.Number.the-variants as Number
 use Rattle.pauli_word.specs.Limits.{wordLength}
 use Rattle.pauli_word.specs.Bytes.{Bytes}
 use Rattle.keyed.specs.Keyed.{Rising, Slot, found, free, tableOf, foldKey}
-use Rattle.sum_rows.specs.declared.RowSum.{RowSum}
+use Rattle.sum_rows.specs.declared.row_sum.RowSum.{RowSum}
 use Rattle.sum_rows.specs.declared.search.Slot.{Slot as RowSlot}
 use Rattle.sum_rows.specs.declared.search.Slot.the-variants as RowSlot
 use Rattle.row_lists.specs.Rows.{maxRows, rowAt}

@@ -9,7 +9,7 @@ use Rattle.pauli_word.specs.Word.{lessBits}
 use Rattle.pauli_word.specs.Bytes.{planeBits}
 use Rattle.action.specs.Lists.{sameNumbers}
 use Rattle.keyed.specs.Keyed.{Fold}
-use Rattle.sum_rows.specs.declared.RowSum.{RowSum}
+use Rattle.sum_rows.specs.declared.row_sum.RowSum.{RowSum}
 use Rattle.sum_rows.specs.Sums.{sumsBy}
 
 -- the rows of a sum: each coefficient with the bytes of its word

@@ -10,7 +10,7 @@ use Rattle.pauli_word.specs.Limits.{wordLength}
 use Rattle.action.specs.Lists.{every}
 use Rattle.keyed.specs.Keyed.{Fold, keyOf, tableOf, runningFrom, running, firstFailing}
 use Rattle.row_lists.specs.Rows.{zero, joinRows}
-use Rattle.sum_rows.specs.declared.RowSum.{RowSum}
+use Rattle.sum_rows.specs.declared.row_sum.RowSum.{RowSum}
 
 -- whether a float is a number, and not an infinity or a NaN
 abbrev pub finite : Float → Bool

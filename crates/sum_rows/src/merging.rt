@@ -10,7 +10,8 @@ ghost use Rattle.sum_rows.specs.Sums.{foldOutcome};
 ghost use Rattle.row_lists.specs.Rows.{rowAt};
 ghost use Rattle.sum_rows.specs.Rows.{rowsIn, lessBytes, byteSums};
 ghost use Rattle.sum_rows.specs.Held.{Held, HeldAll, sumFinite};
-use crate::RowSum;
+use crate::row_sum;
+use crate::row_sum::RowSum;
 use crate::search;
 use crate::search::Slot;
 use outcome::Number;
@@ -62,7 +63,7 @@ pub fn merge_found(
     let now = sum.merged(coefficients[row]);
     sums[at] = now.coefficient;
     counts[at] = now.rows;
-    crate::is_finite(now.coefficient)
+    row_sum::is_finite(now.coefficient)
 }
 
 // Merges a row whose word is new: its sum starts at the row itself, and its position is put in at place k.
@@ -86,7 +87,7 @@ pub fn merge_free(
     let now = RowSum::new().merged(coefficients[row]);
     sums[row] = now.coefficient;
     counts[row] = now.rows;
-    crate::is_finite(now.coefficient)
+    row_sum::is_finite(now.coefficient)
 }
 
 // Merges the next row.

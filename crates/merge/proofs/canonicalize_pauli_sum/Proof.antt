@@ -48,8 +48,8 @@ representatives-requires c κs =
     let e = c .before in
     (accepted e, (rows e, checked e .representatives ∙ sym (checked e .long)))
 
-fold-requires : tie.Need-fold-requires
-fold-requires c κs =
+fold-rows-requires : tie.Need-fold-rows-requires
+fold-rows-requires c κs =
     let e = c .before .before .before .before .before .before .before in
     let s = start e in
     let bytes = ap length (c .before .before .before .before .before .representatives .ensures) ∙ representatives-bytes (s .args .group) (now (s .args .words)) (length (now (s .args .coefficients))) in
@@ -86,7 +86,7 @@ returns-2 c =
     let a = start e .args in
     let cs = now (a .coefficients) in
     let stored = c .before .before .before .before .before .before .before .before .before .before .before .before .representatives .ensures in
-    let done = c .before .before .before .before .before .before .fold .ensures in (
+    let done = c .before .before .before .before .before .before .fold-rows .ensures in (
       done .0 ∙ ap (λ (w : List ℕ). onAnswer length (foldOutcome byteSums (rowsIn w cs))) stored
           ∙ folded-outcome (a .group) (now (a .words)) cs (now (a .representatives)) (now (a .sums)) (now (a .counts)) (pass e) (accepted e) (rows e),
       (
@@ -109,7 +109,7 @@ canonicalize-pauli-sum-spec =
     enum-known-checked
     enum-told
     representatives-requires
-    fold-requires
+    fold-rows-requires
     returns
     same-length
     same-length-2

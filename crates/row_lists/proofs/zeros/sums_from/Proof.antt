@@ -64,8 +64,7 @@ loop-again c =
     let l = c .before .loop in
     let long : length (l .sums) ≡ length (now (a .sums)) = sums-length (c .before) in
     let numbers : length (l .counts) ≡ length (now (a .counts)) = counts-length (c .before) in
-    let rows = same-rows (c .before) in
-    (
+    let rows = same-rows (c .before) in (
       omega arith,
       omega arith,
       rw (l .inv .2) (zeroed-next zero (now (a .sums)) (a .from) (l .i) (l .inv .0) (omega arith)),

@@ -6,7 +6,7 @@ use denote.Ref.{now}
 use lib.ListN.{length, getD, set}
 use borrow.Author.Needs.{needs}
 use Rattle.row_lists.specs.Rows.{maxRows}
-use Rattle.sum_rows.specs.declared.RowSum.{RowSum}
+use Rattle.sum_rows.specs.declared.row_sum.RowSum.{RowSum}
 use Rattle.sum_rows.specs.Sums.{finiteSum}
 use Rattle.sum_rows.specs.Held.{Held}
 use Rattle.sum_rows.proofs.RowMerging.{found-place, found-inside, found-count, found-finite, held-found}

@@ -1,4 +1,4 @@
--- `fold` meets its contract: the rows that are merged are arranged, and beside a refusal the lists are zero (`Filled`).
+-- `fold::fold_rows` meets its contract: the rows that are merged are arranged, and beside a refusal the lists are zero (`Filled`).
 use Prim.Native.Nat.{ℕ, _*_}
 use mathlib.Core.Path.{_≡_, sym, ap, subst, _∙_}
 use mathlib.Core.List.{List}
@@ -17,8 +17,8 @@ use Rattle.sum_rows.specs.Rows.{rowsIn, byteSums}
 use Rattle.sum_rows.specs.Held.{Held, HeldAll}
 use Rattle.sum_rows.proofs.RowMerging.{held-start}
 use Rattle.sum_rows.proofs.Filled.{handed-table, handed-none, no-words, no-members, held-positions, words-filled, sums-filled, counts-filled}
-use Rattle.sum_rows.proofs.fold.Statement.{statement}
-use Rattle.sum_rows.proofs.fold.Tie as tie
+use Rattle.sum_rows.proofs.fold.fold_rows.Statement.{statement}
+use Rattle.sum_rows.proofs.fold.fold_rows.Tie as tie
 
 -- all rows are merged
 module _ (c : tie.After-used) where
@@ -70,11 +70,8 @@ enum-known-why c = search needs
 bytes-from-requires : tie.Need-bytes-from-requires
 bytes-from-requires c κs = search needs
 
-floats-from-requires : tie.Need-floats-from-requires
-floats-from-requires c κs = search needs
-
-counts-from-requires : tie.Need-counts-from-requires
-counts-from-requires c κs = search needs
+sums-from-requires : tie.Need-sums-from-requires
+sums-from-requires c κs = search needs
 
 same-length : tie.Need-same-length
 same-length c = search needs
@@ -111,7 +108,7 @@ same-length-6 c = search needs
 
 returns-2 : tie.Need-returns-2
 returns-2 c =
-    let w = c .before .before .before .before .before .before .before .before .before .before .before .before .before in
+    let w = c .before .before .before .before .before .before .before .before .before .before .before .before in
     let m = w .before .before .before .before .before .before .before in
     let s = m .before .before .before .before .before .before .before .before .before in
     let k = length (now (s .args .coefficients)) in
@@ -124,16 +121,16 @@ returns-2 c =
     let none = handed-none (foldOutcome byteSums (rowsIn (now (s .args .words)) (now (s .args .coefficients)))) (w .why .given .0 .0) told in (
       told,
       (
-        c .before .before .before .before .before .before .before .before .before .before .bytes-from .ensures ∙ no-words k (now (s .args .words)) (s .pre .1 .0) ∙ ap (wordsFilled k) (sym none),
+        c .before .before .before .before .before .before .before .before .before .bytes-from .ensures ∙ no-words k (now (s .args .words)) (s .pre .1 .0) ∙ ap (wordsFilled k) (sym none),
         (
-          c .before .before .before .before .before .before .floats-from .ensures ∙ no-members k zero (m .merge-rows .last .1 .1 .1 .0) (lengths .1) ∙ ap (sumsFilled k) (sym none),
-          c .before .before .counts-from .ensures ∙ no-members k 0 (m .merge-rows .last .1 .1 .1 .1 .0) (lengths .2) ∙ ap (countsFilled k) (sym none),
+          c .before .before .before .before .sums-from .ensures .0 ∙ no-members k zero (m .merge-rows .last .1 .1 .1 .0) (lengths .1) ∙ ap (sumsFilled k) (sym none),
+          c .before .before .before .before .sums-from .ensures .1 ∙ no-members k 0 (m .merge-rows .last .1 .1 .1 .1 .0) (lengths .2) ∙ ap (countsFilled k) (sym none),
         ),
       ),
     )
 
-pub fold-spec : {M : Type 1} → statement M
-fold-spec =
+pub fold-rows-spec : {M : Type 1} → statement M
+fold-rows-spec =
     tie.close
     (tie.spec
     slice-aggregate-merge-rows
@@ -143,8 +140,7 @@ fold-spec =
     arrange-requires
     enum-known-why
     bytes-from-requires
-    floats-from-requires
-    counts-from-requires
+    sums-from-requires
     same-length
     same-length-2
     same-length-3

@@ -1,13 +1,13 @@
--- `RowSum::merged` meets its contract.
+-- `row_sum::RowSum::merged` meets its contract.
 use Prim.Native.Nat.{ℕ}
 use mathlib.Core.Path.{ap}
 use native.Mathlib.Numerals.{add-one}
 use lib.Ieee.{binary64, add}
 use borrow.Author.Needs.{needs}
-use Rattle.sum_rows.specs.declared.RowSum.{RowSum}
+use Rattle.sum_rows.specs.declared.row_sum.RowSum.{RowSum}
 use Rattle.sum_rows.specs.Sums.{addRow}
-use Rattle.sum_rows.proofs.RowSum.merged.Statement.{statement}
-use Rattle.sum_rows.proofs.RowSum.merged.Tie as tie
+use Rattle.sum_rows.proofs.row_sum.RowSum.merged.Statement.{statement}
+use Rattle.sum_rows.proofs.row_sum.RowSum.merged.Tie as tie
 
 add-t4 : tie.Need-add-t4
 add-t4 c = search needs

@@ -1,8 +1,8 @@
--- `is_finite` meets its contract: 1.0 / 0.0 is the infinity, and a float between the two infinities is finite (`between`).
+-- `row_sum::is_finite` meets its contract: 1.0 / 0.0 is the infinity, and a float between the two infinities is finite (`between`).
 use lib.Ieee.{ofBits, div, neg}
 use Rattle.sum_rows.proofs.Finite.{between, not-above}
-use Rattle.sum_rows.proofs.is_finite.Statement.{statement}
-use Rattle.sum_rows.proofs.is_finite.Tie as tie
+use Rattle.sum_rows.proofs.row_sum.is_finite.Statement.{statement}
+use Rattle.sum_rows.proofs.row_sum.is_finite.Tie as tie
 
 returns : tie.Need-returns
 unfolding ofBits div neg

@@ -1,8 +1,8 @@
--- `RowSum::new` meets its contract.
+-- `row_sum::RowSum::new` meets its contract.
 use mathlib.Core.Path.{refl}
 use lib.Ieee.{ofBits}
-use Rattle.sum_rows.proofs.RowSum.new.Statement.{statement}
-use Rattle.sum_rows.proofs.RowSum.new.Tie as tie
+use Rattle.sum_rows.proofs.row_sum.RowSum.new.Statement.{statement}
+use Rattle.sum_rows.proofs.row_sum.RowSum.new.Tie as tie
 
 returns : tie.Need-returns
 unfolding ofBits
