@@ -84,6 +84,10 @@ pub fn small() {
 // Which rows go together, and how they are ordered.
 pub fn words() {
     let ring4 = samples::ring4();
+    let mut pair = [0u8; 2 * WORD_BYTES];
+    shown::put(&mut pair, 0, b"XIII");
+    shown::put(&mut pair, WORD_BYTES, b"IIXI");
+    shown::folded(b"XIII 0.5, IIXI 0.25", ring4, 4, &pair, &[0.5, 0.25]);
     let mut words = [0u8; 4 * WORD_BYTES];
     shown::put(&mut words, 0, b"XIII");
     shown::put(&mut words, WORD_BYTES, b"IIXI");
