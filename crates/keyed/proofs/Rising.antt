@@ -97,16 +97,6 @@ module _ {K : Type 0} (less : K → K → Bool) where
   insert-passing : {P : K → Type 0} (k : K) (js : List K) → P k → ((a : K) → Member a js → P a) → (a : K) → Member a (insertKey less k js) → P a
   insert-passing k js pk ps a n = ⊎-elim (λ e. rw e pk) (ps a) (of-insert-member k a js n)
 
-  insert-length : (k : K) (js : List K) → length (insertKey less k js) ≤ suc (length js)
-  unfolding insertKey
-  insert-length k [] = omega arith
-  insert-length k (j ∷ js) = go (compared less j k) (insert-length k js)
-    where
-      go : Compared less j k → length (insertKey less k js) ≤ suc (length js) → length (insertKey less k (j ∷ js)) ≤ suc (suc (length js))
-      go (after e) later = rw e (suc-le-suc later)
-      go (before e f) later = rw (e, f) (omega arith)
-      go (level e f) later = rw (e, f) (omega arith)
-
   -- ---- all keys of a list put in
 
   insertAll-rising : (ks js : List K) → Rising less js → Rising less (insertAll less js ks)
@@ -131,11 +121,6 @@ module _ {K : Type 0} (less : K → K → Bool) where
       ⊎-elim (λ n. ⊎-elim (λ e. inr (inl e)) (λ e. inl e) (of-insert-member k a js n)) (λ n. inr (inr n))
       (of-insertAll-member ks (insertKey less k js) a m)
 
-  insertAll-length : (ks js : List K) → length (insertAll less js ks) ≤ length js + length ks
-  unfolding insertAll
-  insertAll-length [] js = omega arith
-  insertAll-length (k ∷ ks) js = omega (arith, insertAll-length ks (insertKey less k js), insert-length k js)
-
   pub rising-rising : (ks : List K) → Rising less (rising less ks)
   unfolding rising
   rising-rising ks = insertAll-rising ks [] tt
@@ -147,10 +132,6 @@ module _ {K : Type 0} (less : K → K → Bool) where
   pub of-rising-member : (ks : List K) (k : K) → Member k (rising less ks) → Member k ks
   unfolding rising
   of-rising-member ks k m = ⊎-elim (λ n. absurd n) (λ n. n) (of-insertAll-member ks [] k m)
-
-  pub rising-length : (ks : List K) → length (rising less ks) ≤ length ks
-  unfolding rising
-  rising-length ks = omega (arith, insertAll-length ks [])
 
   -- ---- slots
 

@@ -2,19 +2,19 @@
 -- The fact that carries it: a row changes what its own key comes to, and no other key (`fold-own`, `fold-other`), and keys do not repeat.
 use Prim.Native.Nat.{ℕ, zero, suc, _<_}
 use native.Mathlib.Nat.{le-of-suc-le-suc, not-suc-le-zero}
-use mathlib.Core.Path.{_≡_, refl, sym, _∙_, ap, ap₂, subst}
+use mathlib.Core.Path.{_≡_, refl, sym, _∙_, ap, ap₂}
 use mathlib.Core.Logic.{_⊎_, inl, inr, ⊎-elim}
 use mathlib.Core.Bool.{Bool, true, false, false≢true}
 use mathlib.Core.List.{List, [], _∷_, _++_, map, map-map}
-use lib.ListN.{length, getD, set}
+use lib.ListN.{length, getD}
 use Rattle.pauli_word.proofs.Words.{map-append}
-use Rattle.action.specs.Lists.{Member, NoRepeats, select}
+use Rattle.action.specs.Lists.{Member, select}
 use Rattle.action.proofs.Lists.{member-map, of-member-map, of-member-append, member-append-left, member-append-right}
-use Rattle.keyed.specs.Keyed.{Fold, Orders, Equality, insertKey, rising, found, free, slotOf, renamed}
+use Rattle.keyed.specs.Keyed.{Fold, Equality, insertKey, rising, renamed}
 use Rattle.keyed.specs.Keyed.{insertAt, keyOf, contentsOf, foldKey, tableOf, runningFrom, running}
-use Rattle.keyed.proofs.Rising.{member-getD, rising-rising, rising-next, rising-member, of-rising-member, rising-noRepeats}
-use Rattle.keyed.proofs.Rising.{rising-renamed, insert-found, insert-free, slot-found-below, slot-found-at, slot-free-new}
-use Rattle.keyed.proofs.Folds.{by-last, not-same, fold-own, fold-other, fold-none, running-next}
+use Rattle.keyed.proofs.Rising.{rising-next, of-rising-member}
+use Rattle.keyed.proofs.Rising.{rising-renamed}
+use Rattle.keyed.proofs.Folds.{by-last, fold-own, fold-other, running-next}
 
 -- ---- lists with a member for each key
 
@@ -32,18 +32,6 @@ module _ {A B : Type 0} where
   map-insertAt g zero a xs = refl
   map-insertAt g (suc i) a [] = refl
   map-insertAt g (suc i) a (b ∷ xs) = ap (λ (l : List B). g b ∷ l) (map-insertAt g i a xs)
-
-  -- two maps that differ at the member a alone, which stands at place i
-  map-set :
-      (g h : A → B) (xs : List A) (i : ℕ) (d a : A) → i < length xs → getD xs i d ≡ a → NoRepeats xs
-      → ((b : A) → Member b xs → (b ≡ a → ⊥) → h b ≡ g b) → map h xs ≡ set (map g xs) i (h a)
-  map-set g h [] i d a l e u differ = absurd (not-suc-le-zero l)
-  map-set g h (x ∷ xs) zero d a l e u differ =
-      ap₂ _∷_ (ap h e) (map-cong h g xs (λ b m. differ b (inr m) (λ f. u .0 (subst (λ (c : A). Member c xs) (f ∙ sym e) m))))
-  map-set g h (x ∷ xs) (suc i) d a l e u differ =
-      ap₂ _∷_
-      (differ x (inl refl) (λ f. u .0 (subst (λ (c : A). Member c xs) (e ∙ sym f) (member-getD xs d i (le-of-suc-le-suc l)))))
-      (map-set g h xs i d a (le-of-suc-le-suc l) e (u .1) (λ b m. differ b (inr m)))
 
 keys-paired : {K S : Type 0} (g : K → S) (ks : List K) → map keyOf (map (λ k. (k, g k)) ks) ≡ ks
 keys-paired g [] = refl
@@ -77,13 +65,11 @@ module _ {K C S : Type 0} (f : Fold K C S) where
       let (a, n, e) = of-member-map (valueOf f rows) (keysOf f rows) (k, s) m in
       ap (λ (r : K × S). r .1) e ∙ ap (λ (b : K). foldKey f b rows) (sym (ap keyOf e))
 
-  keys-after : (rows : List (K × C)) (row : K × C) → keysOf f (rows ++ (row ∷ [])) ≡ insertKey (f .less) (row .0) (keysOf f rows)
+  -- the keys with one row more
+  pub keys-after : (rows : List (K × C)) (row : K × C) → keysOf f (rows ++ (row ∷ [])) ≡ insertKey (f .less) (row .0) (keysOf f rows)
   keys-after rows row = ap (rising (f .less)) (keys-next rows row) ∙ rising-next (f .less) (map keyOf rows) (row .0)
 
   module _ (q : Equality (f .same)) where
-    value-other : (rows : List (K × C)) (row : K × C) (b : K) → (b ≡ row .0 → ⊥) → valueOf f (rows ++ (row ∷ [])) b ≡ valueOf f rows b
-    value-other rows row b n = ap (λ (s : S). (b, s)) (fold-other f b rows row (not-same q (row .0) b (λ e. n (sym e))))
-
     -- a key other than the last row's has a row before it
     key-before :
         (k : K) (rows : List (K × C)) (row : K × C) → f .same (row .0) k ≡ false → Member k (map keyOf (rows ++ (row ∷ [])))
@@ -118,59 +104,6 @@ module _ {K C S : Type 0} (f : Fold K C S) where
 
     pub table-running : (rows : List (K × C)) (k : K) (s : S) → Member (k, s) (tableOf f rows) → Member s (running f rows)
     table-running rows k s m = rw (table-value rows k s m) (last-running k rows (table-key rows k s m))
-
--- ---- one row more
-
-module _ {K C S : Type 0} {P : K → Type 0} (f : Fold K C S) (o : Orders P (f .less)) (q : Equality (f .same))
-    (rows : List (K × C)) (row : K × C) (ps : (a : K) → Member a (map keyOf (rows ++ (row ∷ []))) → P a) (i : ℕ) where
-  own-passes : P (row .0)
-  own-passes = ps (row .0) (rw (keys-next rows row) (member-append-right (map keyOf rows) (row .0 ∷ []) (row .0) (inl refl)))
-
-  seen-pass : (a : K) → Member a (map keyOf rows) → P a
-  seen-pass a m = ps a (rw (keys-next rows row) (member-append-left (map keyOf rows) (row .0 ∷ []) a m))
-
-  -- its key has a row already
-  module _ (e : slotOf (f .less) (row .0) (rising (f .less) (map keyOf rows)) ≡ found i) where
-    at-found : getD (keysOf f rows) i (row .0) ≡ row .0
-    at-found =
-        slot-found-at o (row .0) (keysOf f rows) (row .0) i own-passes
-        (λ a m. seen-pass a (of-rising-member (f .less) (map keyOf rows) a m)) e
-
-    below-found : i < length (keysOf f rows)
-    below-found = slot-found-below (f .less) (row .0) (keysOf f rows) i e
-
-    pub table-at-found : (d : K × S) → getD (tableOf f rows) i d ≡ (row .0, foldKey f (row .0) rows)
-    unfolding tableOf
-    table-at-found d = getD-map (valueOf f rows) (keysOf f rows) i d (row .0) below-found ∙ ap (valueOf f rows) at-found
-
-    pub table-found : tableOf f (rows ++ (row ∷ [])) ≡ set (tableOf f rows) i (row .0, f .step (foldKey f (row .0) rows) (row .1))
-    unfolding tableOf
-    table-found =
-        ap (map (valueOf f (rows ++ (row ∷ [])))) (keys-after f rows row ∙ insert-found (f .less) (row .0) (keysOf f rows) i e)
-        ∙ map-set (valueOf f rows) (valueOf f (rows ++ (row ∷ []))) (keysOf f rows) i (row .0) (row .0) below-found at-found
-        (rising-noRepeats o (keysOf f rows) (rising-rising (f .less) (map keyOf rows))) (λ b m. value-other f q rows row b)
-        ∙ ap (λ (s : S). set (tableOf f rows) i (row .0, s)) (fold-own f q rows row)
-
-  -- its key is new
-  module _ (e : slotOf (f .less) (row .0) (rising (f .less) (map keyOf rows)) ≡ free i) where
-    key-new : Member (row .0) (keysOf f rows) → ⊥
-    key-new = slot-free-new o (row .0) (keysOf f rows) i (rising-rising (f .less) (map keyOf rows)) e
-
-    fold-first : foldKey f (row .0) (rows ++ (row ∷ [])) ≡ f .step (f .start) (row .1)
-    fold-first =
-        fold-own f q rows row
-        ∙ ap (λ (s : S). f .step s (row .1))
-        (fold-none f q (row .0) rows (λ m. key-new (rising-member o (map keyOf rows) seen-pass (row .0) m)))
-
-    pub table-free : tableOf f (rows ++ (row ∷ [])) ≡ insertAt i (row .0, f .step (f .start) (row .1)) (tableOf f rows)
-    unfolding tableOf
-    table-free =
-        ap (map (valueOf f (rows ++ (row ∷ [])))) (keys-after f rows row ∙ insert-free (f .less) (row .0) (keysOf f rows) i e)
-        ∙ map-insertAt (valueOf f (rows ++ (row ∷ []))) i (row .0) (keysOf f rows)
-        ∙ ap (insertAt i (valueOf f (rows ++ (row ∷ [])) (row .0)))
-        (map-cong (valueOf f (rows ++ (row ∷ []))) (valueOf f rows) (keysOf f rows)
-        (λ b m. value-other f q rows row b (λ g. key-new (subst (λ (c : K). Member c (keysOf f rows)) g m))))
-        ∙ ap (λ (s : S). insertAt i (row .0, s) (tableOf f rows)) fold-first
 
 -- ---- keys renamed
 

@@ -1,11 +1,10 @@
 // Rows put into their places. Whoever calls a function here owes its `requires`.
 ghost use mathlib.Core.Path.{_≡_};
-ghost use mathlib.Core.List.{map, _++_};
-ghost use Prim.Native.Nat.{ℕ, _+_, _-_, _*_, _≤_, _<_};
-ghost use lib.ListN.{length, take, getD, replicate};
+ghost use Prim.Native.Nat.{ℕ, _+_, _*_, _<_};
+ghost use lib.ListN.{length, take, getD};
 ghost use lib.Ieee.{nan};
 ghost use Rattle.pauli_word.specs.Limits.{wordLength};
-ghost use Rattle.row_lists.specs.Rows.{maxRows, zero, rowAt, arrangedWords, arranged};
+ghost use Rattle.row_lists.specs.Rows.{maxRows, zero, arrangedWords, arranged};
 ghost use Rattle.row_lists.specs.Arranging.{Positions, Owned, Placed};
 use crate::MAX_ROWS;
 use crate::exchange;

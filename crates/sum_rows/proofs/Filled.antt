@@ -1,5 +1,5 @@
 -- What the lists of a sum hold at the end: the rows at the positions, arranged, are the table's; and beside a refusal they are zero.
-use Prim.Native.Nat.{ℕ, _-_, _*_, _≤_, _<_}
+use Prim.Native.Nat.{ℕ, _-_, _*_, _<_}
 use mathlib.Core.Path.{_≡_, refl, sym, ap, ap₂, _∙_}
 use mathlib.Core.Bool.{Bool, true, false, cond, false≢true}
 use mathlib.Core.List.{List, [], map, _++_, map-map}
@@ -15,7 +15,7 @@ use Rattle.pauli_word.specs.Limits.{wordLength}
 use Rattle.keyed.specs.Keyed.{Fold, Rising, keyOf, tableOf}
 use Rattle.keyed.proofs.Rising.{rising-rising, rising-places}
 use Rattle.keyed.proofs.Tables.{getD-map, table-keys}
-use Rattle.row_lists.specs.Rows.{maxRows, zero, rowAt, joinRows, arrangedWords, arranged}
+use Rattle.row_lists.specs.Rows.{zero, rowAt, joinRows, arrangedWords, arranged}
 use Rattle.row_lists.specs.Arranging.{Positions}
 use Rattle.sum_rows.specs.declared.row_sum.RowSum.{RowSum}
 use Rattle.sum_rows.specs.Sums.{overflow, foldOutcome, wordsFilled, sumsFilled, countsFilled, handedBack}

@@ -1,11 +1,11 @@
 -- A member put into a list by moving up those behind its place, from the last one on.
 use Prim.Native.Nat.{ℕ, zero, suc, _+_, _-_, _≤_, _<_}
 use mathlib.Core.Path.{_≡_, refl, sym, ap, ap₂, subst, _∙_}
-use mathlib.Core.List.{List, [], _∷_, _++_}
+use mathlib.Core.List.{List, _∷_, _++_}
 use native.Mathlib.Nat.{sub-self, not-suc-le-zero}
 use native.Mathlib.Omega.{arith}
 use lib.ListN.{length, getD, set, take, drop, length-set}
-use lib.Seq.{length-take-le, drop-cons, getD-set-same, take-set-le, drop-set-lt, getD-take, take-take, take-add, take-all, drop-at}
+use lib.Seq.{length-take-le, drop-cons, getD-set-same, take-set-le, drop-set-lt, getD-take, take-take, take-add, drop-at}
 use Rattle.keyed.specs.Keyed.{insertAt}
 
 -- the first i members of xs are as they were, and those from i on, up to place `used`, stand one place further up

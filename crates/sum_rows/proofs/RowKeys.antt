@@ -1,7 +1,7 @@
 -- The rows of a sum and their keys: which row stands where, that keys are words' bytes, and that these are ordered.
 -- The fact that carries it: bytes of one length are the same if their bits are (`planeBits-injective`), so neither less means equal.
 use Prim.Native.Nat.{ℕ, zero, suc, _+_, _*_, _<_, _≤_}
-use native.Mathlib.Nat.{suc-inj, suc-ne-zero, le-of-suc-le-suc, not-suc-le-zero}
+use native.Mathlib.Nat.{le-of-suc-le-suc, not-suc-le-zero}
 use native.Mathlib.Omega.{arith}
 use mathlib.Core.Path.{_≡_, refl, sym, _∙_, ap}
 use mathlib.Core.Logic.{_⊎_, inl, inr}

@@ -14,14 +14,13 @@ use lib.Seq.{length-take-le, getD-take, getD-set-same, getD-set-other}
 use lib.Ieee.{Float, nan}
 use Rattle.pauli_word.specs.Limits.{wordLength}
 use Rattle.pauli_word.specs.Bytes.{Bytes}
-use Rattle.pauli_word.proofs.Words.{map-append}
 use Rattle.action.specs.Lists.{Member, NoRepeats, count}
 use Rattle.action.proofs.Lists.{member-map, of-member-append, member-append-left, member-append-right}
 use Rattle.keyed.specs.Keyed.{rising, insertKey, found, free, slotOf, insertAt, keyOf, contentsOf, leftFold, foldKey, tableOf}
-use Rattle.keyed.proofs.Rising.{member-getD, rising-rising, rising-next, rising-member, of-rising-member, rising-noRepeats}
+use Rattle.keyed.proofs.Rising.{member-getD, rising-rising, rising-member, of-rising-member, rising-noRepeats}
 use Rattle.keyed.proofs.Rising.{insert-found, insert-free, slot-found-below, slot-found-at, slot-free-below, slot-free-new}
 use Rattle.keyed.proofs.Folds.{not-same, contents-length, fold-own, fold-other, fold-none}
-use Rattle.keyed.proofs.Tables.{map-cong, map-insertAt, keysOf, valueOf, table-keys, table-value}
+use Rattle.keyed.proofs.Tables.{map-cong, map-insertAt, keysOf, valueOf, keys-after, table-keys, table-value}
 use Rattle.row_lists.specs.Rows.{maxRows, rowAt}
 use Rattle.sum_rows.specs.declared.row_sum.RowSum.{RowSum}
 use Rattle.sum_rows.specs.Sums.{noRows, addRow, finiteSum}
@@ -189,10 +188,7 @@ module _ {words : List ℕ} {cs : List Float} {i used : ℕ} {positions : List �
   next-rows = ap (λ (k : ℕ). take k (rowsIn words cs)) (add-one i) ∙ rows-next words cs i more
 
   next-keys : keysOf byteSums next ≡ insertKey lessBytes (rowAt words i) (map (rowAt words) ps)
-  next-keys =
-      ap (rising lessBytes) (map-append keyOf seen (row ∷ []))
-      ∙ rising-next lessBytes (map keyOf seen) (rowAt words i)
-      ∙ ap (insertKey lessBytes (rowAt words i)) (sym words-keys)
+  next-keys = keys-after byteSums seen row ∙ ap (insertKey lessBytes (rowAt words i)) (sym words-keys)
 
   next-own : (s : RowSum) → s ≡ foldKey byteSums (rowAt words i) seen → added s ≡ foldKey byteSums (rowAt words i) next
   next-own s e = ap added e ∙ sym (fold-own byteSums byte-equality seen row)

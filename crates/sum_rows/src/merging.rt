@@ -2,8 +2,8 @@
 // positions of these rows, two bytes each. Whoever calls a function here owes its `requires`.
 ghost use mathlib.Core.Path.{_≡_};
 ghost use mathlib.Core.List.{map};
-ghost use Prim.Native.Nat.{ℕ, suc, _+_, _*_, _≤_, _<_};
-ghost use lib.ListN.{length, take, getD};
+ghost use Prim.Native.Nat.{_+_, _≤_, _<_};
+ghost use lib.ListN.{length, take};
 ghost use Rattle.outcome.specs.Outcome.{outcomeOfNumber, onAnswer};
 ghost use Rattle.keyed.specs.Keyed.{insertAt, slotOf, found, free};
 ghost use Rattle.sum_rows.specs.Sums.{foldOutcome};

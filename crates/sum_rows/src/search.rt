@@ -1,10 +1,10 @@
 // Where a row's word stands among those of other rows, in rising order. Whoever calls a function here owes its `requires`.
 ghost use mathlib.Core.Path.{_≡_};
 ghost use mathlib.Core.List.{map};
-ghost use Prim.Native.Nat.{ℕ, _+_, _*_, _≤_, _<_};
-ghost use lib.ListN.{length, take, getD};
+ghost use Prim.Native.Nat.{_+_, _*_, _≤_, _<_};
+ghost use lib.ListN.{length, take};
 ghost use Rattle.pauli_word.specs.Limits.{wordLength};
-ghost use Rattle.keyed.specs.Keyed.{Rising, slotOf};
+ghost use Rattle.keyed.specs.Keyed.{slotOf};
 ghost use Rattle.pauli_word.specs.Bytes.{planeBits};
 ghost use Rattle.pauli_word.specs.Calls.{orderOfBits};
 ghost use Rattle.row_lists.specs.Rows.{rowAt};

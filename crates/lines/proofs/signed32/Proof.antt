@@ -1,5 +1,4 @@
 -- `signed32` meets its contract: a number of 32 bits fits 64 with its sign (`again`), and one below zero may be negated there (`negated`).
-use Prim.Native.Nat.{suc, _<_}
 use mathlib.Core.Path.{_≡_, sym, ap, _∙_}
 use mathlib.Core.Bool.{true, false, false≢true, true≢false}
 use native.Mathlib.Omega.{arith}

@@ -8,7 +8,7 @@ use lib.Ieee.{nan}
 use borrow.Author.Needs.{needs}
 use Rattle.row_lists.specs.Rows.{maxRows}
 use Rattle.sum_rows.specs.declared.row_sum.RowSum.{RowSum}
-use Rattle.sum_rows.specs.Sums.{addRow, noRows, finiteSum}
+use Rattle.sum_rows.specs.Sums.{addRow, finiteSum}
 use Rattle.sum_rows.specs.Held.{Held}
 use Rattle.sum_rows.proofs.RowMerging.{free-place, free-room, free-finite, held-free}
 use Rattle.sum_rows.proofs.merging.merge_free.Statement.{statement}

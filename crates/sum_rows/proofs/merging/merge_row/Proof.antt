@@ -1,6 +1,5 @@
 -- `merging::merge_row` meets its contract: the row's word is found, or its place is free.
 use mathlib.Core.Path.{sym, ap, _∙_}
-use denote.Ref.{now}
 use borrow.Author.Needs.{needs}
 use Rattle.sum_rows.specs.Held.{slotFound}
 use Rattle.sum_rows.proofs.RowMerging.{held-places}

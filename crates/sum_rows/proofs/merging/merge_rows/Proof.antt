@@ -1,15 +1,13 @@
 -- `merging::merge_rows` meets its contract. The loop's invariant: the first i rows are merged, and each running sum was finite.
-use Prim.Native.Nat.{ℕ, _+_, _-_, _≤_, _<_}
-use mathlib.Core.Path.{_≡_, refl, sym, ap, subst, _∙_}
-use mathlib.Core.Bool.{true, false}
+use Prim.Native.Nat.{ℕ, _-_, _<_}
+use mathlib.Core.Path.{_≡_, sym, ap, subst, _∙_}
+use mathlib.Core.Bool.{true}
 use native.Mathlib.Omega.{arith}
 use denote.Ref.{now}
 use lib.ListN.{length}
-use borrow.Author.Needs.{needs}
 use borrow.Author.Tests.{not-true, not-false}
 use borrow.Author.Count.{below-none, below-more}
 use Rattle.outcome.specs.Outcome.{answer, onAnswer}
-use Rattle.row_lists.specs.Rows.{maxRows}
 use Rattle.sum_rows.specs.Held.{Held, sumFinite}
 use Rattle.sum_rows.proofs.Folding.{fold-answers, fold-refused, held-length}
 use Rattle.sum_rows.proofs.merging.merge_rows.Statement.{statement}

@@ -1,13 +1,12 @@
 -- `search::slot_of` meets its contract. The loop's invariant: the words before `low` are less than the row's, and those from `high` on are
 -- greater (`Searching`).
 use Prim.Native.Nat.{ℕ, _+_, _-_, _/_, _≤_, _<_}
-use mathlib.Core.Path.{_≡_, sym, ap, _∙_}
+use mathlib.Core.Path.{sym, _∙_}
 use native.Mathlib.Omega.{arith}
 use denote.Ref.{now}
 use borrow.Author.Needs.{needs}
 use lib.ListN.{length}
 use Rattle.row_lists.specs.Rows.{maxRows}
-use Rattle.sum_rows.specs.Held.{slotFound}
 use Rattle.sum_rows.proofs.Searching.{Searching, below-used, search-start, search-up, search-down, search-found, search-free}
 use Rattle.sum_rows.proofs.search.slot_of.Statement.{statement}
 use Rattle.sum_rows.proofs.search.slot_of.Tie as tie
