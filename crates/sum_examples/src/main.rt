@@ -1,7 +1,4 @@
 // Runs worked examples of sums and prints what each comes to; the file `stdout` beside src/ is what it must print.
-mod large;
-mod refusals;
-mod shown;
 mod sums;
 
 fn main() {
@@ -11,11 +8,4 @@ fn main() {
     sums::words();
     sums::groups();
     sums::none();
-    refusals::not_finite();
-    refusals::rows();
-    refusals::lists();
-    refusals::groups();
-    large::full();
-    large::different();
-    large::too_many();
 }

@@ -1,7 +1,6 @@
 // Sums of as many rows as there may be, and of one more.
-use crate::shown;
-use crate::shown::Sizes;
 use pauli_word::WORD_BYTES;
+use sum_lines::Sizes;
 
 // As many rows as there may be, and one more.
 const ROWS: usize = 4096;
@@ -16,7 +15,7 @@ pub fn full() {
     let mut sums = [9.0f64; ROWS];
     let mut counts = [9u32; ROWS];
     lines::text(b"4096 rows of one orbit: ");
-    shown::told(merge::canonicalize_pauli_sum(
+    sum_lines::told(merge::canonicalize_pauli_sum(
         group::chain_1d(8).group,
         &words,
         &[0.1f64; ROWS],
@@ -41,7 +40,7 @@ pub fn different() {
     let mut sums = [9.0f64; ROWS];
     let mut counts = [9u32; ROWS];
     lines::text(b"4096 rows of different words: ");
-    shown::told(merge::canonicalize_pauli_sum(
+    sum_lines::told(merge::canonicalize_pauli_sum(
         group::try_from_generators(12, &[], &[]).group,
         &words,
         &coefficients,
@@ -81,7 +80,7 @@ fn many(name: &[u8], words: &[u8], numbers: usize) {
         sums: MORE,
         counts: numbers,
     };
-    shown::cut(
+    sum_lines::cut(
         name,
         group::chain_1d(8).group,
         8,

@@ -1,4 +1,4 @@
-// A sum of a few rows: folded, and printed with its lists.
+// Sums, for the example programs: folded, and printed with their lists.
 use group::Group;
 use outcome::Number;
 use pauli_word::WORD_BYTES;
@@ -29,20 +29,51 @@ fn byte(bytes: &[u8], i: usize) -> u8 {
     if i < bytes.len() { bytes[i] } else { 0 }
 }
 
-// Folds a sum with one row.
+// Folds a sum of one row.
 pub fn one(name: &[u8], g: Group, n: usize, letters: &[u8], coefficient: f64) {
     let mut words = [0u8; WORD_BYTES];
     put(&mut words, 0, letters);
     folded(name, g, n, &words, &[coefficient]);
 }
 
-// Folds a sum of three rows with the same word.
-pub fn three(name: &[u8], g: Group, n: usize, letters: &[u8], coefficients: &[f64]) {
-    let mut words = [0u8; 3 * WORD_BYTES];
-    put(&mut words, 0, letters);
-    put(&mut words, WORD_BYTES, letters);
-    put(&mut words, 2 * WORD_BYTES, letters);
+// Folds a sum of two rows.
+pub fn two(name: &[u8], g: Group, n: usize, a: &[u8], b: &[u8], coefficients: &[f64]) {
+    let mut words = [0u8; 2 * WORD_BYTES];
+    put(&mut words, 0, a);
+    put(&mut words, WORD_BYTES, b);
     folded(name, g, n, &words, coefficients);
+}
+
+// Folds a sum of three rows.
+pub fn three(name: &[u8], g: Group, n: usize, a: &[u8], b: &[u8], c: &[u8], coefficients: &[f64]) {
+    let mut words = [0u8; 3 * WORD_BYTES];
+    put(&mut words, 0, a);
+    put(&mut words, WORD_BYTES, b);
+    put(&mut words, 2 * WORD_BYTES, c);
+    folded(name, g, n, &words, coefficients);
+}
+
+// Folds a sum of four rows on the ring.
+pub fn four(name: &[u8], a: &[u8], b: &[u8], c: &[u8], d: &[u8], coefficients: &[f64]) {
+    let mut words = [0u8; 4 * WORD_BYTES];
+    put(&mut words, 0, a);
+    put(&mut words, WORD_BYTES, b);
+    put(&mut words, 2 * WORD_BYTES, c);
+    put(&mut words, 3 * WORD_BYTES, d);
+    folded(name, samples::ring4(), 4, &words, coefficients);
+}
+
+// Folds a sum of three rows with the same word on the ring.
+pub fn same(name: &[u8], letters: &[u8], coefficients: &[f64]) {
+    three(
+        name,
+        samples::ring4(),
+        4,
+        letters,
+        letters,
+        letters,
+        coefficients,
+    );
 }
 
 // Folds a sum of at most ROOM rows into lists of as many.

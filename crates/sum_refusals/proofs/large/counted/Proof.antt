@@ -4,8 +4,8 @@ use mathlib.Core.Path.{_≡_, refl}
 use native.Mathlib.Omega.{arith}
 use lib.ListN.{length, length-set}
 use borrow.Author.Needs.{needs}
-use Rattle.sum_examples.proofs.large.counted.Statement.{statement}
-use Rattle.sum_examples.proofs.large.counted.Tie as tie
+use Rattle.sum_refusals.proofs.large.counted.Statement.{statement}
+use Rattle.sum_refusals.proofs.large.counted.Tie as tie
 
 abbrev Inv-loop : tie.InvT-loop
 Inv-loop coefficients₀ i₀ c₀ coefficients i c = (i ≤ length coefficients₀) × (length coefficients ≡ length coefficients₀)

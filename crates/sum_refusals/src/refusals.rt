@@ -1,40 +1,46 @@
 // Sums that are refused. After each refusal the lists are looked at: as they were, but for 25, which leaves zeros.
-use crate::shown;
-use crate::shown::ROOM;
-use crate::shown::Sizes;
 use group::Group;
 use pauli_word::WORD_BYTES;
+use sum_lines::ROOM;
+use sum_lines::Sizes;
 
 const LARGEST: f64 = 1.7976931348623157e308;
 
 // 25: running sums that are not finite, by the first row that makes one so.
 pub fn not_finite() {
-    let ring4 = samples::ring4();
-    shown::three(
+    sum_lines::same(
         b"the largest twice, then minus it",
-        ring4,
-        4,
         b"ZIII",
         &[LARGEST, LARGEST, -LARGEST],
     );
-    shown::three(
+    sum_lines::same(
         b"minus the largest, 0.0, minus the largest",
-        ring4,
-        4,
         b"ZIII",
         &[-LARGEST, 0.0, -LARGEST],
     );
-    let mut words = [0u8; 4 * WORD_BYTES];
-    shown::put(&mut words, 0, b"XIII");
-    shown::put(&mut words, WORD_BYTES, b"ZIII");
-    shown::put(&mut words, 2 * WORD_BYTES, b"IIZI");
-    shown::put(&mut words, 3 * WORD_BYTES, b"IXII");
-    shown::folded(
+    sum_lines::four(
         b"X and Z, each the largest twice, Z first",
-        ring4,
-        4,
-        &words,
+        b"XIII",
+        b"ZIII",
+        b"IIZI",
+        b"IXII",
         &[LARGEST, LARGEST, LARGEST, LARGEST],
+    );
+}
+
+// 24: infinities and NaN.
+pub fn coefficients() {
+    let ring4 = samples::ring4();
+    let infinity = 1.0 / 0.0;
+    let nan = infinity - infinity;
+    sum_lines::one(b"an infinity", ring4, 4, b"XIII", infinity);
+    sum_lines::one(b"minus an infinity", ring4, 4, b"XIII", -infinity);
+    sum_lines::one(b"a NaN", ring4, 4, b"XIII", nan);
+    sum_lines::same(b"an infinity in row 2", b"XIII", &[1.0, 2.0, infinity]);
+    sum_lines::same(
+        b"a NaN in row 1, an infinity in row 2",
+        b"XIII",
+        &[1.0, nan, infinity],
     );
 }
 
@@ -42,46 +48,32 @@ pub fn not_finite() {
 pub fn rows() {
     let ring4 = samples::ring4();
     let infinity = 1.0 / 0.0;
-    shown::one(b"an infinity", ring4, 4, b"XIII", infinity);
-    shown::one(b"minus an infinity", ring4, 4, b"XIII", -infinity);
-    shown::one(b"a NaN", ring4, 4, b"XIII", infinity - infinity);
-    shown::three(
-        b"an infinity in row 2",
-        ring4,
-        4,
-        b"XIII",
-        &[1.0, 2.0, infinity],
-    );
-    shown::three(
-        b"a NaN in row 1, an infinity in row 2",
-        ring4,
-        4,
-        b"XIII",
-        &[1.0, infinity - infinity, infinity],
-    );
-    shown::one(b"a bit at site 4", ring4, 4, b"IIIIX", 1.0);
-    shown::one(
+    sum_lines::one(b"a bit at site 4", ring4, 4, b"IIIIX", 1.0);
+    sum_lines::one(
         b"a bit at site 4 and an infinity",
         ring4,
         4,
         b"IIIIZ",
         infinity,
     );
-    let mut words = [0u8; 2 * WORD_BYTES];
-    shown::put(&mut words, 0, b"XIII");
-    shown::put(&mut words, WORD_BYTES, b"IIIIX");
-    shown::folded(
+    sum_lines::two(
         b"an infinity in row 0, a bit at site 4 in row 1",
         ring4,
         4,
-        &words,
+        b"XIII",
+        b"IIIIX",
         &[infinity, 1.0],
     );
-    shown::folded(b"a bit at site 4 in row 1", ring4, 4, &words, &[1.0, 1.0]);
-    shown::three(
-        b"the largest twice, an infinity in row 2",
+    sum_lines::two(
+        b"a bit at site 4 in row 1",
         ring4,
         4,
+        b"XIII",
+        b"IIIIX",
+        &[1.0, 1.0],
+    );
+    sum_lines::same(
+        b"the largest twice, an infinity in row 2",
         b"XIII",
         &[LARGEST, LARGEST, infinity],
     );
@@ -126,7 +118,7 @@ fn sized(
         sums,
         counts,
     };
-    shown::cut(
+    sum_lines::cut(
         name,
         g,
         4,

@@ -1,11 +1,11 @@
--- `large::numbered` ends, and writes inside its list. The loop's invariant: the list is as long as it was.
+-- `large::turning` ends, and writes inside its list. The loop's invariant: the list is as long as it was.
 use Prim.Native.Nat.{_-_, _≤_}
 use mathlib.Core.Path.{_≡_, refl}
 use native.Mathlib.Omega.{arith}
 use lib.ListN.{length, length-set}
 use borrow.Author.Needs.{needs}
-use Rattle.sum_examples.proofs.large.numbered.Statement.{statement}
-use Rattle.sum_examples.proofs.large.numbered.Tie as tie
+use Rattle.sum_refusals.proofs.large.turning.Statement.{statement}
+use Rattle.sum_refusals.proofs.large.turning.Tie as tie
 
 abbrev Inv-loop : tie.InvT-loop
 Inv-loop words₀ i₀ words i = (i ≤ length words₀) × (length words ≡ length words₀)
@@ -16,8 +16,8 @@ abbrev μ-loop : tie.MeasureT-loop
 loop-holds : tie.Need-loop-holds Inv-loop μ-loop
 loop-holds c = (omega arith, refl)
 
-numbered-byte-requires : tie.Need-numbered-byte-requires Inv-loop μ-loop
-numbered-byte-requires c κs = search needs
+turning-byte-requires : tie.Need-turning-byte-requires Inv-loop μ-loop
+turning-byte-requires c κs = search needs
 
 slice-write-words : tie.Need-slice-write-words Inv-loop μ-loop
 slice-write-words c = omega arith
@@ -37,14 +37,14 @@ same-length c = c .before .loop .inv .1
 returns : tie.Need-returns Inv-loop μ-loop
 returns c = search needs
 
-pub numbered-spec : {M : Type 1} → statement M
-numbered-spec =
+pub turning-spec : {M : Type 1} → statement M
+turning-spec =
     tie.close
     (tie.spec
     Inv-loop
     μ-loop
     loop-holds
-    numbered-byte-requires
+    turning-byte-requires
     slice-write-words
     add-i
     loop-less

@@ -1,10 +1,10 @@
--- `shown::bytes_nine` ends, and reads and writes inside its lists. The loop's invariant: i is at most the list's length.
+-- `bytes_nine` ends, and reads and writes inside its lists. The loop's invariant: i is at most the list's length.
 use Prim.Native.Nat.{_-_, _≤_}
 use native.Mathlib.Omega.{arith}
 use lib.ListN.{length}
 use borrow.Author.Needs.{needs}
-use Rattle.sum_examples.proofs.shown.bytes_nine.Statement.{statement}
-use Rattle.sum_examples.proofs.shown.bytes_nine.Tie as tie
+use Rattle.sum_lines.proofs.bytes_nine.Statement.{statement}
+use Rattle.sum_lines.proofs.bytes_nine.Tie as tie
 
 abbrev Inv-loop : tie.InvT-loop
 Inv-loop list i₀ i = i ≤ length list

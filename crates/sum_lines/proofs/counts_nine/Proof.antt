@@ -1,10 +1,10 @@
--- `shown::floats_nine` ends, and reads and writes inside its lists. The loop's invariant: i is at most the list's length.
+-- `counts_nine` ends, and reads and writes inside its lists. The loop's invariant: i is at most the list's length.
 use Prim.Native.Nat.{_-_, _≤_}
 use native.Mathlib.Omega.{arith}
 use lib.ListN.{length}
 use borrow.Author.Needs.{needs}
-use Rattle.sum_examples.proofs.shown.floats_nine.Statement.{statement}
-use Rattle.sum_examples.proofs.shown.floats_nine.Tie as tie
+use Rattle.sum_lines.proofs.counts_nine.Statement.{statement}
+use Rattle.sum_lines.proofs.counts_nine.Tie as tie
 
 abbrev Inv-loop : tie.InvT-loop
 Inv-loop list i₀ i = i ≤ length list
@@ -36,8 +36,8 @@ loop-again c = omega arith
 returns-2 : tie.Need-returns-2 Inv-loop μ-loop
 returns-2 c = search needs
 
-pub floats-nine-spec : {M : Type 1} → statement M
-floats-nine-spec =
+pub counts-nine-spec : {M : Type 1} → statement M
+counts-nine-spec =
     tie.close
     (tie.spec
     Inv-loop
