@@ -1,39 +1,73 @@
--- What is promised of a folded sum: each statement is followed by the law that shows it.
+-- What is promised of a sum by the outcome of its call, for a group that accepted generators give and any bytes: each statement is followed by
+-- the law that shows it.
 --
 -- 1 An answered sum, 2 A refused sum.
 use Prim.Native.Nat.{ℕ}
-use mathlib.Core.Path.{_≡_, subst}
+use mathlib.Core.Path.{_≡_, refl, sym, ap, subst, _∙_}
+use mathlib.Core.Logic.{_⊎_, inl, inr}
 use mathlib.Core.List.{List}
+use native.Mathlib.Omega.{arith}
 use lib.ListN.{length}
 use lib.Ieee.{Float}
 use Rattle.outcome.specs.declared.Refusal.the-variants as Refusal
-use Rattle.outcome.specs.Outcome.{refused, answer, refusalOf}
+use Rattle.outcome.specs.Outcome.{Outcome, refused, answer, refusalOf, verdict, given}
+use Rattle.outcome.proofs.Outcomes.{refused-apart}
 use Rattle.pauli_word.specs.Word.{Word}
+use Rattle.pauli_word.specs.Bytes.{Bytes}
 use Rattle.group.specs.declared.Group.{Group}
-use Rattle.group.specs.Value.{AcceptedGroup}
+use Rattle.group.specs.Value.{GivenBy}
+use Rattle.group.proofs.Promises.{given-group}
 use Rattle.sum_rows.specs.declared.row_sum.RowSum.{RowSum}
-use Rattle.merge.specs.Calls.{foldedSum, AcceptedRows}
+use Rattle.merge.specs.Calls.{sumChecks, foldedSum, sumOutcome}
 use Rattle.merge.specs.Promises.{FoldedTable, OverflowsAt}
+use Rattle.merge.proofs.SumChecks.{checked-sum, checked-rows, numberIn, checks-before-25}
 use Rattle.merge.proofs.FoldedSums.{table-folded, answered-table, refused-overflows}
 
-module _ (g : Group) (words : List ℕ) (cs : List Float) where
+given-answered : {A : Type 0} (v : Outcome (Unit {0})) (o : Outcome A) (a : A) → given v o ≡ answer a → (v ≡ answer tt) × (o ≡ answer a)
+given-answered (refused k vs) o a e = absurd (refused-apart k vs a e)
+given-answered (answer tt) o a e = (refl, e)
+
+given-refused : {A : Type 0} (v : Outcome (Unit {0})) (o : Outcome A) (k : ℕ) (vs : List ℕ) → given v o ≡ refused k vs
+    → ((ws : List ℕ) × (v ≡ refused k ws)) ⊎ (o ≡ refused k vs)
+given-refused (refused j ws) o k vs e = inl (ws, ap (λ (i : ℕ). refused i ws) (ap numberIn e))
+given-refused (answer t) o k vs e = inr e
+
+module _ (g : Group) (by : GivenBy g) (words : List ℕ) (small : Bytes words) (cs : List Float)
+    (representatives : List ℕ) (sums : List Float) (counts : List ℕ) where
   -- ---- 1 An answered sum: strictly rising representatives, each with how many rows have it and with their sum, which is finite
 
-  pub answered-folded :
-      AcceptedGroup g → AcceptedRows (g .sites) words (length cs) → (table : List (Word × RowSum)) → foldedSum g words cs ≡ answer table
-      → FoldedTable g words cs table
-  answered-folded group rows table e =
-      let (small, same) = answered-table g words cs table e in
-      subst (FoldedTable g words cs) same (table-folded g words cs group rows small)
+  pub answered-folded : (table : List (Word × RowSum)) → sumOutcome g words cs representatives sums counts ≡ answer table → FoldedTable g words cs table
+  unfolding sumOutcome
+  answered-folded table e =
+      let checks = verdict (sumChecks g words cs (length representatives) (length sums) (length counts)) in
+      let (pass, folded) = given-answered checks (foldedSum g words cs) table e in
+      let checked = checked-sum g words cs (length representatives) (length sums) (length counts) pass in
+      let (finite, same) = answered-table g words cs table folded in
+      subst (FoldedTable g words cs) same (table-folded g words cs (given-group g by) (checked-rows checked small) finite)
 
-  -- ---- 2 A refused sum: by 25 alone, with the first row whose sum is not finite
+  -- ---- 2 A refused sum: 25 is with the first row whose running sum is not finite; past its checks a sum is refused by nothing else
 
-  pub refusal-not-finite : (k : ℕ) (vs : List ℕ) → foldedSum g words cs ≡ refused k vs
-      → (i : ℕ) × (foldedSum g words cs ≡ refusalOf (Refusal.SumNotFinite i))
-  refusal-not-finite k vs e = let (i, by, at) = refused-overflows g words cs k vs e in (i, by)
+  pub refused-first : (i : ℕ) → sumOutcome g words cs representatives sums counts ≡ refusalOf (Refusal.SumNotFinite i) → OverflowsAt g words cs i
+  unfolding sumOutcome
+  refused-first i e = go (given-refused checks (foldedSum g words cs) _ _ e)
+    where
+      checks : Outcome (Unit {0})
+      checks = verdict (sumChecks g words cs (length representatives) (length sums) (length counts))
 
-  pub refused-first : (i : ℕ) → foldedSum g words cs ≡ refusalOf (Refusal.SumNotFinite i) → OverflowsAt g words cs i
-  refused-first i e =
-      let (j, by, at) = refused-overflows g words cs _ _ e in
-      let k : j ≡ i = cc in
-      subst (OverflowsAt g words cs) k at
+      go : ((ws : List ℕ) × (checks ≡ refused 25 ws)) ⊎ (foldedSum g words cs ≡ refusalOf (Refusal.SumNotFinite i)) → OverflowsAt g words cs i
+      go (inl (ws, f)) =
+          let below = checks-before-25 g words cs (length representatives) (length sums) (length counts) 25 ws f in
+          absurd (omega arith)
+      go (inr f) =
+          let (j, by, at) = refused-overflows g words cs _ _ f in
+          let k : j ≡ i = cc in
+          subst (OverflowsAt g words cs) k at
+
+  pub refused-by-25 : verdict (sumChecks g words cs (length representatives) (length sums) (length counts)) ≡ answer tt
+      → (k : ℕ) (vs : List ℕ) → sumOutcome g words cs representatives sums counts ≡ refused k vs
+      → (i : ℕ) × (sumOutcome g words cs representatives sums counts ≡ refusalOf (Refusal.SumNotFinite i))
+  unfolding sumOutcome
+  refused-by-25 pass k vs e =
+      let past = ap (λ (v : Outcome (Unit {0})). given v (foldedSum g words cs)) pass in
+      let (i, by, at) = refused-overflows g words cs k vs (sym past ∙ e) in
+      (i, past ∙ by)

@@ -1,9 +1,10 @@
 -- The checks of a sum, rule by rule: the lists' rows, and then the rows one after the other, each by its own rules; and what a pass has shown.
 -- The fact that carries it: the checks from row i on are those of row i, and then those from the next row on (`checks-next`).
 use Prim.Native.Nat.{ℕ, zero, suc, _+_, _*_, _≤_, _<_}
+use mathlib.Core.Logic.{inl, inr}
 use mathlib.Core.Path.{_≡_, refl, sym, ap, _∙_}
-use mathlib.Core.Bool.{true, false, _&&_, not, and-eq-true-iff, and-false}
-use mathlib.Core.List.{List, [], _∷_}
+use mathlib.Core.Bool.{true, false, _&&_, not, and-eq-true-iff, and-false, Bool, cond}
+use mathlib.Core.List.{List, [], _∷_, map}
 use native.Mathlib.Numerals.{add-one}
 use native.Mathlib.Omega.{arith}
 use lib.Dec.{eqb}
@@ -13,12 +14,13 @@ use lib.Ieee.{Float, nan}
 use borrow.Author.Tests.{lt-ltb, le-ltb, ltb-false, eq-eqb, ne-eqb, eqb-true, not-false}
 use Rattle.outcome.specs.declared.Refusal.{Refusal}
 use Rattle.outcome.specs.declared.Refusal.the-variants as Refusal
-use Rattle.outcome.specs.Outcome.{Outcome, answer, refused, refusalOf, rule, verdict, given}
+use Rattle.outcome.specs.Outcome.{Outcome, answer, refused, refusalOf, rule, verdict, given, Check}
 use Rattle.outcome.proofs.Outcomes.{refused-apart, verdict-fine, verdict-append, front-refused}
 use Rattle.pauli_word.specs.Limits.{maxSites, planeLength, wordLength}
 use Rattle.pauli_word.specs.Bytes.{clearFrom, Bytes, AcceptedWord}
 use Rattle.pauli_word.specs.Calls.{siteCount, clearAbove, wordChecks}
 use Rattle.elements.proofs.Orbits.{part-length}
+use Rattle.action.specs.Lists.{Member}
 use Rattle.group.specs.declared.Group.{Group}
 use Rattle.group.specs.Value.{notAGroup}
 use Rattle.group.specs.Calls.{valueChecks}
@@ -221,3 +223,36 @@ pub checked-rows :
     {g : Group} {words : List ℕ} {cs : List Float} {a b c : ℕ} → CheckedSum g words cs a b c → Bytes words
     → AcceptedRows (g .sites) words (length cs)
 checked-rows {g} {words} {cs} s small = accepted-rows (g .sites) words cs (s .rows) (value-few g (s .value)) small (s .long) (s .few)
+
+-- ---- no check is by 25
+
+-- the number of a refusal
+abbrev pub numberIn : {A : Type 0} → Outcome A → ℕ
+numberIn (refused k vs) = k
+numberIn (answer t) = 0
+
+-- a refusal is by the number of a check
+verdict-number : (checks : List Check) (k : ℕ) (vs : List ℕ) → verdict checks ≡ refused k vs → Member k (map (λ (c : Check). c .number) checks)
+verdict-number [] k vs e = absurd (refused-apart k vs tt (sym e))
+verdict-number (c ∷ checks) k vs e = go (c .broken) (verdict-number checks k vs) e
+  where
+    go : (b : Bool) → (verdict checks ≡ refused k vs → Member k (map (λ (d : Check). d .number) checks))
+        → cond b (refused (c .number) (c .values)) (verdict checks) ≡ refused k vs → Member k (map (λ (d : Check). d .number) (c ∷ checks))
+    go true later f = inl (sym (ap numberIn f))
+    go false later f = inr (later f)
+
+row-numbers : (n i : ℕ) (rows : List (List ℕ × Float)) (k : ℕ) → Member k (map (λ (c : Check). c .number) (rowChecks n i rows)) → k < 25
+row-numbers n i [] k m = absurd m
+row-numbers n i (row ∷ rows) k (inl e) = omega arith
+row-numbers n i (row ∷ rows) k (inr (inl e)) = omega arith
+row-numbers n i (row ∷ rows) k (inr (inr m)) = row-numbers n (suc i) rows k m
+
+pub checks-before-25 : (g : Group) (words : List ℕ) (cs : List Float) (a b c k : ℕ) (vs : List ℕ) → verdict (sumChecks g words cs a b c) ≡ refused k vs → k < 25
+checks-before-25 g words cs a b c k vs e = go (verdict-number (sumChecks g words cs a b c) k vs e)
+  where
+    go : Member k (map (λ (d : Check). d .number) (sumChecks g words cs a b c)) → k < 25
+    go (inl f) = omega arith
+    go (inr (inl f)) = omega arith
+    go (inr (inr (inl f))) = omega arith
+    go (inr (inr (inr (inl f)))) = omega arith
+    go (inr (inr (inr (inr m)))) = row-numbers (g .sites) 0 (rowsIn words cs) k m

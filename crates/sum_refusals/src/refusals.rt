@@ -8,6 +8,14 @@ const LARGEST: f64 = 1.7976931348623157e308;
 
 // 25: running sums that are not finite, by the first row that makes one so.
 pub fn not_finite() {
+    sum_lines::two(
+        b"the largest twice",
+        samples::ring4(),
+        4,
+        b"ZIII",
+        b"ZIII",
+        &[LARGEST, LARGEST],
+    );
     sum_lines::same(
         b"the largest twice, then minus it",
         b"ZIII",
