@@ -26,7 +26,7 @@ pub fn own(positions: &[u16], used: usize, owners: &mut [u16])
     }
 }
 
-// Puts the rows at the first `used` positions into rows 0, 1, ..; what stands after them then is of no account. Each row moves at most twice.
+// Puts the rows at the first `used` positions into rows 0, 1, ..; what stands after them then is of no account. At most one exchange a place.
 pub fn place_rows(
     positions: &mut [u16],
     used: usize,
