@@ -5,7 +5,7 @@ use native.Mathlib.Nat.{le-antisymm, eq-or-lt-of-le, not-suc-le-zero}
 use native.Mathlib.Omega.{arith}
 use mathlib.Core.Path.{_≡_, refl, sym, _∙_, ap, ap₂, subst}
 use mathlib.Core.Logic.{_⊎_, inl, inr, ⊎-elim}
-use mathlib.Core.Bool.{Bool, true, false, cond, false≢true, and-eq-true-iff}
+use mathlib.Core.Bool.{Bool, true, false, cond, false≢true, and-eq-true-iff, _&&_, and-assoc}
 use mathlib.Core.List.{List, [], _∷_, _++_, map, head-eq-of-cons-eq, tail-eq-of-cons-eq}
 use lib.Dec.{eqb}
 use lib.ListN.{length, length-map}
@@ -102,6 +102,11 @@ module _ {A : Type 0} where
   unfolding every
   every-intro p [] h = refl
   every-intro p (a ∷ xs) h = and-eq-true-iff (p a) (every p xs) .1 (h a (inl refl), every-intro p xs (λ b k. h b (inr k)))
+
+  pub every-append : (p : A → Bool) (xs ys : List A) → every p (xs ++ ys) ≡ (every p xs && every p ys)
+  unfolding every
+  every-append p [] ys = refl
+  every-append p (a ∷ xs) ys = ap (λ (t : Bool). p a && t) (every-append p xs ys) ∙ sym (and-assoc (p a) (every p xs) (every p ys))
 
   pub every-elim : (p : A → Bool) (xs : List A) → every p xs ≡ true → (a : A) → Member a xs → p a ≡ true
   unfolding every

@@ -5,13 +5,13 @@ use native.Mathlib.Nat.{le-of-suc-le-suc, not-suc-le-zero}
 use native.Mathlib.Omega.{arith}
 use mathlib.Core.Path.{_≡_, refl, sym, _∙_, ap}
 use mathlib.Core.Logic.{inl, inr}
-use mathlib.Core.Bool.{Bool, true, false, _&&_, cond, false≢true, and-assoc, and-false, and-eq-true-iff}
+use mathlib.Core.Bool.{Bool, true, false, _&&_, cond, false≢true, and-false, and-eq-true-iff}
 use mathlib.Core.List.{List, [], _∷_, _++_, map, append-nil}
-use lib.ListN.{length, getD, length-map}
-use lib.Seq.{append-snoc}
+use lib.ListN.{length, getD, take, drop, length-map}
+use lib.Seq.{append-snoc, split-at, take-suc, length-take-le, getD-at}
 use Rattle.pauli_word.proofs.Words.{map-append}
 use Rattle.action.specs.Lists.{Member, select, count, every}
-use Rattle.action.proofs.Lists.{of-member-map, count-pos, count-select}
+use Rattle.action.proofs.Lists.{every-append, of-member-map, count-pos, count-select}
 use Rattle.keyed.specs.Keyed.{Fold, Equality, keyOf, contentsOf, leftFold, foldKey, runningFrom, running, firstFailing}
 
 -- what holds of no member, and of one member more at the end, holds of every list
@@ -41,14 +41,9 @@ module _ {A : Type 0} (p : A → Bool) where
 
   -- ---- a test of all members, and the first that fails it
 
-  pub every-append : (xs ys : List A) → every p (xs ++ ys) ≡ (every p xs && every p ys)
-  unfolding every
-  every-append [] ys = refl
-  every-append (a ∷ xs) ys = ap (λ (t : Bool). p a && t) (every-append xs ys) ∙ sym (and-assoc (p a) (every p xs) (every p ys))
-
   pub every-failing : (xs : List A) (a : A) (ys : List A) → p a ≡ false → every p (xs ++ (a ∷ ys)) ≡ false
   unfolding every
-  every-failing xs a ys e = every-append xs (a ∷ ys) ∙ rw e (and-false (every p xs))
+  every-failing xs a ys e = every-append p xs (a ∷ ys) ∙ rw e (and-false (every p xs))
 
   pub firstFailing-at :
       (xs : List A) (a : A) (ys : List A) → every p xs ≡ true → p a ≡ false
@@ -166,3 +161,15 @@ module _ {K C S : Type 0} (f : Fold K C S) where
       → running f (seen ++ (row ∷ [])) ≡ running f seen ++ (foldKey f (row .0) (seen ++ (row ∷ [])) ∷ [])
   unfolding runningFrom
   running-next seen row = running-split seen row []
+
+  -- what the key of row i comes to over the rows up to and with row i
+  pub running-at : (rows : List (K × C)) (i : ℕ) (d : S) (r : K × C) → i < length rows
+      → getD (running f rows) i d ≡ foldKey f (getD rows i r .0) (take (suc i) rows)
+  running-at rows i d r h =
+      let row : K × C = getD rows i r in
+      let seen : List (K × C) = take i rows in
+      let here : length (running f seen) ≡ i = running-length seen ∙ length-take-le i rows (omega arith) in
+      ap (λ (l : List (K × C)). getD (running f l) i d) (split-at rows i r h)
+      ∙ ap (λ (l : List S). getD l i d) (running-split seen row (drop (suc i) rows))
+      ∙ getD-at (running f seen) (foldKey f (row .0) (seen ++ (row ∷ []))) (runningFrom f (seen ++ (row ∷ [])) (drop (suc i) rows)) d i here
+      ∙ ap (foldKey f (row .0)) (sym (take-suc rows i r h))

@@ -25,6 +25,12 @@ compared less j k = go (less j k) refl (less k j) refl
     go false e true f = before e f
     go false e false f = level e f
 
+-- of two keys that are less, equal or greater, those of which neither is less are equal
+pub neither-less : {K : Type 0} (less : K → K → Bool) (a b : K) → (less a b ≡ true) ⊎ ((a ≡ b) ⊎ (less b a ≡ true)) → less a b ≡ false → less b a ≡ false → a ≡ b
+neither-less less a b (inl h) e f = absurd (false≢true (sym e ∙ h))
+neither-less less a b (inr (inl same)) e f = same
+neither-less less a b (inr (inr h)) e f = absurd (false≢true (sym f ∙ h))
+
 module _ {K : Type 0} (less : K → K → Bool) where
   -- the first of a list, if there is one, is above a
   abbrev Leads : K → List K → Type 0

@@ -1,5 +1,5 @@
--- The table of rows: its keys, its values, and what one more row does to it.
--- The fact that carries it: a row changes what its own key comes to, and no other key (`fold-own`, `fold-other`), and keys do not repeat.
+-- The table of rows: its keys, its values, what each key's last row comes to, and the table with its keys renamed.
+-- The fact that carries it: a row changes what no other key comes to (`fold-other`).
 use Prim.Native.Nat.{ℕ, zero, suc, _<_}
 use native.Mathlib.Nat.{le-of-suc-le-suc, not-suc-le-zero}
 use mathlib.Core.Path.{_≡_, refl, sym, _∙_, ap, ap₂}
@@ -10,11 +10,9 @@ use lib.ListN.{length, getD}
 use Rattle.pauli_word.proofs.Words.{map-append}
 use Rattle.action.specs.Lists.{Member, select}
 use Rattle.action.proofs.Lists.{member-map, of-member-map, of-member-append, member-append-left, member-append-right}
-use Rattle.keyed.specs.Keyed.{Fold, Equality, insertKey, rising, renamed}
-use Rattle.keyed.specs.Keyed.{insertAt, keyOf, contentsOf, foldKey, tableOf, runningFrom, running}
-use Rattle.keyed.proofs.Rising.{rising-next, of-rising-member}
-use Rattle.keyed.proofs.Rising.{rising-renamed}
-use Rattle.keyed.proofs.Folds.{by-last, fold-own, fold-other, running-next}
+use Rattle.keyed.specs.Keyed.{Fold, Equality, insertKey, rising, renamed, insertAt, keyOf, contentsOf, foldKey, tableOf, runningFrom, running}
+use Rattle.keyed.proofs.Rising.{rising-next, of-rising-member, rising-renamed}
+use Rattle.keyed.proofs.Folds.{by-last, fold-other, running-next}
 
 -- ---- lists with a member for each key
 

@@ -28,13 +28,13 @@ use Rattle.group.specs.declared.Group.{Group}
 use Rattle.group.specs.Value.{AcceptedGroup}
 use Rattle.group.proofs.MadeGroups.{held-valid}
 use Rattle.keyed.specs.Keyed.{keyOf, renamed, tableOf, firstFailing}
-use Rattle.keyed.proofs.Tables.{table-renamed, running-renamed}
+use Rattle.keyed.proofs.Tables.{getD-map, table-renamed, running-renamed}
 use Rattle.row_lists.specs.Rows.{rowAt}
 use Rattle.row_lists.specs.Rows as Rows
 use Rattle.sum_rows.specs.declared.row_sum.RowSum.{RowSum}
 use Rattle.sum_rows.specs.Sums.{finiteSum, overflow, foldOutcome, sumsFilled, countsFilled, handedBack}
 use Rattle.sum_rows.specs.Rows.{rowsIn, lessBytes, byteSums}
-use Rattle.sum_rows.proofs.RowKeys.{rows-length, rows-next}
+use Rattle.sum_rows.proofs.RowKeys.{rows-length, rows-at, rows-next}
 use Rattle.merge.specs.Calls.{representative, representativeRows, wordSums, foldedSum, representativesOf, AcceptedRows}
 
 -- ---- words of n letters are compared as their bytes are
@@ -126,6 +126,13 @@ module _ (g : Group) (words : List ℕ) (cs : List Float) where
   pub representatives-length : length (representativeRows g (rowsIn words cs)) ≡ length cs
   unfolding representativeRows
   representatives-length = length-map (rowsIn words cs) (renamed (representative g)) ∙ rows-length words cs
+
+  -- row i has its representative
+  pub representative-at : (i : ℕ) → i < length cs → getD (representativeRows g (rowsIn words cs)) i ([], Rows.zero) .0 ≡ representative g (rowAt words i)
+  unfolding representativeRows
+  representative-at i h =
+      ap keyOf (getD-map (renamed (representative g)) (rowsIn words cs) i ([], Rows.zero) ([], nan) (omega (arith, rows-length words cs)))
+      ∙ ap (λ (row : List ℕ × Float). representative g (row .0)) (rows-at words cs i ([], nan) h)
 
   -- a representative is that of some row
   pub representative-of : (w : Word) → Member w (map keyOf (representativeRows g (rowsIn words cs)))

@@ -1,13 +1,12 @@
 -- What a folded sum's table holds, key by key, and where a fold that overflows does so first.
 -- The fact that carries it: what a word comes to is the fold of the coefficients of its rows (`table-value`), of which the table has each word once.
-use Prim.Native.Nat.{ℕ, _+_}
+use Prim.Native.Nat.{ℕ, suc, _<_}
 use mathlib.Core.Path.{_≡_, refl, sym, ap, _∙_}
-use mathlib.Core.Logic.{_⊎_, inl, inr}
-use mathlib.Core.Bool.{Bool, true, false, not, false≢true}
+use mathlib.Core.Bool.{Bool, true, false, not}
 use mathlib.Core.List.{List, [], _∷_, map}
 use native.Mathlib.Nat.{zero-add}
 use native.Mathlib.Omega.{arith}
-use lib.ListN.{length}
+use lib.ListN.{length, getD, take}
 use lib.Ieee.{Float, binary64, add}
 use borrow.Author.Tests.{not-false}
 use Rattle.outcome.specs.declared.Refusal.the-variants as Refusal
@@ -24,45 +23,30 @@ use Rattle.action.proofs.Canonical.{least-own}
 use Rattle.group.specs.declared.Group.{Group}
 use Rattle.group.specs.Value.{generatorsOf, AcceptedGroup}
 use Rattle.group.proofs.MadeGroups.{held-valid}
-use Rattle.keyed.specs.Keyed.{Orders, Equality, rising, keyOf, leftFold, foldKey, tableOf, running, firstFailing}
-use Rattle.keyed.proofs.Rising.{rising-rising, rising-member, of-rising-member}
-use Rattle.keyed.proofs.Folds.{contents-some, running-length, firstFailing-first}
+use Rattle.keyed.specs.Keyed.{Orders, Equality, rising, keyOf, contentsOf, leftFold, foldKey, tableOf, running, firstFailing}
+use Rattle.keyed.proofs.Rising.{neither-less, rising-rising, rising-member, of-rising-member}
+use Rattle.keyed.proofs.Folds.{contents-some, running-length, running-at, firstFailing-first}
 use Rattle.keyed.proofs.Tables.{table-keys, table-key, table-value, table-running}
 use Rattle.keyed.proofs.Sums.{contents-total}
 use Rattle.row_lists.specs.Rows.{rowAt, zero}
 use Rattle.sum_rows.specs.declared.row_sum.RowSum.{RowSum}
-use Rattle.sum_rows.specs.Sums.{noRows, addRow, finiteSum, overflow, foldOutcome}
+use Rattle.sum_rows.specs.Sums.{finite, noRows, finiteSum, overflow, foldOutcome}
+use Rattle.sum_rows.proofs.RowSums.{fold-coefficient, fold-rows}
 use Rattle.merge.specs.Calls.{representative, wordSums, foldedSum, AcceptedRows}
-use Rattle.merge.specs.Promises.{inputRows, coefficientsOf, FoldedRow, FoldedTable, OverflowsAt}
-use Rattle.merge.proofs.FoldedRows.{representatives-length, representative-of, representative-long}
+use Rattle.merge.specs.Promises.{inputRows, coefficientsOf, FoldedRow, FoldedTable, sumAt, OverflowsAt}
+use Rattle.merge.proofs.FoldedRows.{representatives-length, representative-at, representative-of, representative-long}
 
 -- ---- words of one length are keys
 
 pub word-orders : (n : ℕ) → Orders (λ w. length w ≡ n) less
-word-orders n = record { irrefl = less-irrefl; trans = less-trans; total = neither-less }
-  where
-    neither-less : (v w : Word) → length v ≡ n → length w ≡ n → less v w ≡ false → less w v ≡ false → v ≡ w
-    neither-less v w lv lw e f = go (less-total v w (lv ∙ sym lw))
-      where
-        go : (less v w ≡ true) ⊎ ((v ≡ w) ⊎ (less w v ≡ true)) → v ≡ w
-        go (inl h) = absurd (false≢true (sym e ∙ h))
-        go (inr (inl k)) = k
-        go (inr (inr h)) = absurd (false≢true (sym f ∙ h))
+word-orders n = record {
+  irrefl = less-irrefl;
+  trans = less-trans;
+  total = λ v w lv lw. neither-less less v w (less-total v w (lv ∙ sym lw));
+}
 
 pub word-equality : Equality same
 word-equality = record { reflexive = same-refl; equal = same-eq }
-
--- ---- coefficients added one after the other
-
-fold-coefficient : (cs : List Float) (s : RowSum) → leftFold addRow s cs .coefficient ≡ leftFold (add binary64) (s .coefficient) cs
-unfolding leftFold addRow
-fold-coefficient [] s = refl
-fold-coefficient (c ∷ cs) s = fold-coefficient cs (addRow s c)
-
-fold-rows : (cs : List Float) (s : RowSum) → leftFold addRow s cs .rows ≡ s .rows + length cs
-unfolding leftFold addRow
-fold-rows [] s = omega arith
-fold-rows (c ∷ cs) s = fold-rows cs (addRow s c) ∙ omega arith
 
 -- ---- the table
 
@@ -79,11 +63,11 @@ module _ (g : Group) (words : List ℕ) (cs : List Float) where
 
   comes-counted : (w : Word) → comesTo w .rows ≡ length (coefficientsOf g words cs w)
   unfolding foldKey
-  comes-counted w = fold-rows (coefficientsOf g words cs w) noRows ∙ zero-add (length (coefficientsOf g words cs w))
+  comes-counted w = fold-rows noRows (coefficientsOf g words cs w) ∙ zero-add (length (coefficientsOf g words cs w))
 
   comes-summed : (w : Word) → comesTo w .coefficient ≡ leftFold (add binary64) zero (coefficientsOf g words cs w)
   unfolding foldKey
-  comes-summed w = fold-coefficient (coefficientsOf g words cs w) noRows
+  comes-summed w = fold-coefficient noRows (coefficientsOf g words cs w)
 
   module _ (group : AcceptedGroup g) (rows : AcceptedRows (g .sites) words (length cs)) where
     -- a representative is the least word of its own orbit
@@ -136,13 +120,23 @@ module _ (g : Group) (words : List ℕ) (cs : List Float) where
       let one = one-answered (overflow wordSums input) (tableOf wordSums input) table e in
       (not-false (every finiteSum sums) (one .0), one .1)
 
+  -- a running sum is a member of the list of them
+  running-sum : (i : ℕ) → i < length cs → getD sums i noRows .coefficient ≡ sumAt g words cs i
+  unfolding foldKey
+  running-sum i h =
+      ap (λ (s : RowSum). s .coefficient)
+      (running-at wordSums input i noRows ([], zero) (omega (arith, representatives-length g words cs))
+      ∙ ap (λ (w : Word). foldKey wordSums w (take (suc i) input)) (representative-at g words cs i h))
+      ∙ fold-coefficient noRows (contentsOf wordSums (representative g (rowAt words i)) (take (suc i) input))
+
   pub overflows-first : every finiteSum sums ≡ false → OverflowsAt g words cs (firstFailing finiteSum sums)
   overflows-first e =
       let at = firstFailing-first finiteSum sums noRows e in
+      let inside : firstFailing finiteSum sums < length cs = omega (arith, at .0, running-length wordSums input, representatives-length g words cs) in
       record {
-        inside = omega (arith, at .0, running-length wordSums input, representatives-length g words cs);
-        fails = at .1;
-        first = at .2;
+        inside = inside;
+        fails = ap finite (sym (running-sum (firstFailing finiteSum sums) inside)) ∙ at .1;
+        first = λ j h. ap finite (sym (running-sum j (omega arith))) ∙ at .2 j h;
       }
 
   pub refused-overflows : (k : ℕ) (vs : List ℕ) → foldedSum g words cs ≡ refused k vs

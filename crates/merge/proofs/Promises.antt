@@ -3,7 +3,7 @@
 --
 -- 1 An answered sum, 2 A refused sum.
 use Prim.Native.Nat.{ℕ}
-use mathlib.Core.Path.{_≡_, refl, sym, ap, subst, _∙_}
+use mathlib.Core.Path.{_≡_, sym, ap, subst, _∙_}
 use mathlib.Core.Logic.{_⊎_, inl, inr}
 use mathlib.Core.List.{List}
 use native.Mathlib.Omega.{arith}
@@ -11,7 +11,6 @@ use lib.ListN.{length}
 use lib.Ieee.{Float}
 use Rattle.outcome.specs.declared.Refusal.the-variants as Refusal
 use Rattle.outcome.specs.Outcome.{Outcome, refused, answer, refusalOf, verdict, given}
-use Rattle.outcome.proofs.Outcomes.{refused-apart}
 use Rattle.pauli_word.specs.Word.{Word}
 use Rattle.pauli_word.specs.Bytes.{Bytes}
 use Rattle.group.specs.declared.Group.{Group}
@@ -20,12 +19,8 @@ use Rattle.group.proofs.Promises.{given-group}
 use Rattle.sum_rows.specs.declared.row_sum.RowSum.{RowSum}
 use Rattle.merge.specs.Calls.{sumChecks, foldedSum, sumOutcome}
 use Rattle.merge.specs.Promises.{FoldedTable, OverflowsAt}
-use Rattle.merge.proofs.SumChecks.{checked-sum, checked-rows, numberIn, checks-before-25}
+use Rattle.merge.proofs.SumChecks.{given-answered, checked-sum, checked-rows, numberIn, checks-before-25}
 use Rattle.merge.proofs.FoldedSums.{table-folded, answered-table, refused-overflows}
-
-given-answered : {A : Type 0} (v : Outcome (Unit {0})) (o : Outcome A) (a : A) → given v o ≡ answer a → (v ≡ answer tt) × (o ≡ answer a)
-given-answered (refused k vs) o a e = absurd (refused-apart k vs a e)
-given-answered (answer tt) o a e = (refl, e)
 
 given-refused : {A : Type 0} (v : Outcome (Unit {0})) (o : Outcome A) (k : ℕ) (vs : List ℕ) → given v o ≡ refused k vs
     → ((ws : List ℕ) × (v ≡ refused k ws)) ⊎ (o ≡ refused k vs)

@@ -98,14 +98,15 @@ module _ (n : ℕ) (words : List ℕ) (cs : List Float) (i : ℕ) where
 
 -- ---- rows that pass
 
-given-passes : (v o : Outcome (Unit {0})) → given v o ≡ answer tt → (v ≡ answer tt) × (o ≡ answer tt)
-given-passes (refused k vs) o e = absurd (refused-apart k vs tt e)
-given-passes (answer tt) o e = (refl, e)
+-- an answer after checks: they pass, and it is what comes after them
+pub given-answered : {A : Type 0} (v : Outcome (Unit {0})) (o : Outcome A) (a : A) → given v o ≡ answer a → (v ≡ answer tt) × (o ≡ answer a)
+given-answered (refused k vs) o a e = absurd (refused-apart k vs a e)
+given-answered (answer t) o a e = (refl, e)
 
 module _ (n : ℕ) (words : List ℕ) (cs : List Float) (pass : verdict (rowChecks n 0 (rowsIn words cs)) ≡ answer tt) where
   own-and-rest : (i : ℕ) → i < length cs → restVerdict n words cs i ≡ answer tt
       → (ownVerdict n words cs i ≡ answer tt) × (restVerdict n words cs (suc i) ≡ answer tt)
-  own-and-rest i h e = given-passes (ownVerdict n words cs i) (restVerdict n words cs (suc i)) (sym (checks-next n words cs i h) ∙ e)
+  own-and-rest i h e = given-answered (ownVerdict n words cs i) (restVerdict n words cs (suc i)) tt (sym (checks-next n words cs i h) ∙ e)
 
   rest-passes : (i : ℕ) → i ≤ length cs → restVerdict n words cs i ≡ answer tt
   rest-passes zero h = pass
@@ -203,7 +204,7 @@ pub record CheckedSum (g : Group) (words : List ℕ) (cs : List Float) (a b c : 
 pub checked-sum : (g : Group) (words : List ℕ) (cs : List Float) (a b c : ℕ) → verdict (sumChecks g words cs a b c) ≡ answer tt → CheckedSum g words cs a b c
 checked-sum g words cs a b c e =
     let both =
-    given-passes (verdict (valueChecks g)) (verdict (listChecks (g .sites) words cs a b c))
+    given-answered (verdict (valueChecks g)) (verdict (listChecks (g .sites) words cs a b c)) tt
     (sym (verdict-append (valueChecks g) (listChecks (g .sites) words cs a b c)) ∙ e)
     in
     let first = verdict-fine (otherRows (length words) (length cs) a b c) (manyRows (length cs) ∷ rowChecks (g .sites) 0 (rowsIn words cs)) (both .1) in

@@ -1,21 +1,21 @@
 -- What is promised of a folded sum: which rows it has, how many input rows each counts and what they come to; and what a refusal by 25 says.
-use Prim.Native.Nat.{ℕ, _<_}
+use Prim.Native.Nat.{ℕ, suc, _<_}
 use mathlib.Core.Path.{_≡_}
 use mathlib.Core.Bool.{true, false}
 use mathlib.Core.List.{List, map}
-use lib.ListN.{length, getD}
+use lib.ListN.{length, take}
 use lib.Ieee.{Float, binary64, add}
 use Rattle.pauli_word.specs.Word.{Word, less}
 use Rattle.action.specs.Lists.{Member, total}
 use Rattle.action.specs.Orbit.{isRepresentative}
 use Rattle.group.specs.declared.Group.{Group}
 use Rattle.group.specs.Value.{generatorsOf}
-use Rattle.keyed.specs.Keyed.{Rising, keyOf, contentsOf, leftFold, running}
-use Rattle.row_lists.specs.Rows.{zero}
+use Rattle.keyed.specs.Keyed.{Rising, keyOf, contentsOf, leftFold}
+use Rattle.row_lists.specs.Rows.{zero, rowAt}
 use Rattle.sum_rows.specs.declared.row_sum.RowSum.{RowSum}
-use Rattle.sum_rows.specs.Sums.{finite, noRows}
+use Rattle.sum_rows.specs.Sums.{finite}
 use Rattle.sum_rows.specs.Rows.{rowsIn}
-use Rattle.merge.specs.Calls.{representativeRows, wordSums}
+use Rattle.merge.specs.Calls.{representative, representativeRows, wordSums}
 
 -- the rows of the sum, each with its representative
 abbrev pub inputRows : Group → List ℕ → List Float → List (Word × Float)
@@ -41,9 +41,10 @@ pub record FoldedTable (g : Group) (words : List ℕ) (cs : List Float) (table :
   pub row : (w : Word) (s : RowSum) → Member (w, s) table → FoldedRow g words cs w s
   pub allCounted : total (λ row. row .1 .rows) table ≡ length cs
 
--- the sum so far of the word of input row i, with that row
+-- the running sum at input row i: 0.0 and the coefficients of the rows up to and with row i that have its representative, in input order
 abbrev pub sumAt : Group → List ℕ → List Float → ℕ → Float
-sumAt g words cs i = getD (running wordSums (inputRows g words cs)) i noRows .coefficient
+sumAt g words cs i =
+    leftFold (add binary64) zero (contentsOf wordSums (representative g (rowAt words i)) (take (suc i) (inputRows g words cs)))
 
 -- row i is the first that makes a sum not finite
 pub record OverflowsAt (g : Group) (words : List ℕ) (cs : List Float) (i : ℕ) : Type 0 where

@@ -4,12 +4,12 @@ use mathlib.Core.Path.{_≡_, refl, sym, ap, ap₂, _∙_}
 use mathlib.Core.List.{List, [], _∷_, _++_, map}
 use native.Mathlib.Omega.{arith}
 use lib.ListN.{length, getD, take, drop, replicate}
-use lib.Seq.{take-add, drop-drop}
+use lib.Seq.{take-add}
 use lib.Ieee.{Float, nan}
 use Rattle.pauli_word.specs.Limits.{wordLength}
 use Rattle.row_lists.specs.Rows.{rowAt, rowsSwapped, swapped, joinRows, arrangedWords, arranged}
 use Rattle.row_lists.specs.Arranging.{Positions, Owned, Placed, toldPositions, toldOwners}
-use Rattle.row_lists.proofs.Rows.{swapped-length, swapped-exchanged, rowsSwapped-length, rowsSwapped-exchanged}
+use Rattle.row_lists.proofs.Rows.{swapped-length, swapped-exchanged, rowsSwapped-length, rowsSwapped-exchanged, row-behind}
 use Rattle.row_lists.proofs.Arranging.{Waiting, waiting-start, waiting-next, Brought, brought-start, brought-next, brought-end}
 
 -- ---- on the way
@@ -84,12 +84,6 @@ first-row : (words : List ℕ) → rowAt words 0 ≡ take wordLength words
 unfolding rowAt
 first-row words = refl
 
-rowAt-next : (words : List ℕ) (j : ℕ) → rowAt (drop wordLength words) j ≡ rowAt words (suc j)
-unfolding rowAt
-rowAt-next words j =
-    let e : wordLength + wordLength * j ≡ wordLength * suc j = omega arith in
-    ap (take wordLength) (drop-drop (wordLength * j) wordLength words ∙ ap (λ (n : ℕ). drop n words) e)
-
 -- the bytes of the first rows are those rows joined
 rows-joined : (row : ℕ → List ℕ) (ps words : List ℕ) → ((j : ℕ) → j < length ps → rowAt words j ≡ row (getD ps j 0))
     → take (wordLength * length ps) words ≡ joinRows (map row ps)
@@ -100,7 +94,7 @@ rows-joined row (p ∷ ps) words same =
     ap (λ (n : ℕ). take n words) e
     ∙ take-add wordLength (wordLength * length ps) words
     ∙ ap₂ (λ (a b : List ℕ). a ++ b) (sym (first-row words) ∙ same 0 (omega arith))
-    (rows-joined row ps (drop wordLength words) (λ j h. rowAt-next words j ∙ same (suc j) (omega arith)))
+    (rows-joined row ps (drop wordLength words) (λ j h. row-behind words j ∙ same (suc j) (omega arith)))
 
 members-mapped : {A : Type 0} (d : A) (f : ℕ → A) (ps : List ℕ) (xs : List A) → length ps ≤ length xs → ((j : ℕ) → j < length ps → getD xs j d ≡ f (getD ps j 0))
     → take (length ps) xs ≡ map f ps

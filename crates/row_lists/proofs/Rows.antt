@@ -1,5 +1,5 @@
 -- Rows of a list: read and written over member by member, and what is at each row once one is written over or two are exchanged.
-use Prim.Native.Nat.{ℕ, _+_, _-_, _*_, _≤_, _<_}
+use Prim.Native.Nat.{ℕ, suc, _+_, _-_, _*_, _≤_, _<_}
 use mathlib.Core.Path.{_≡_, sym, ap, ap₂, _∙_}
 use mathlib.Core.Logic.{_≢_}
 use mathlib.Core.List.{List, [], _∷_, _++_, append-assoc}
@@ -42,6 +42,13 @@ module _ {A : Type 0} (m s : ℕ) (bs xs : List A) where
             rw (drop-append-le t (take s xs) rest (omega arith), take-append-le n (drop t (take s xs)) rest (omega (arith, length-drop t (take s xs))))
 
 -- ---- rows of words
+
+-- the rows behind the first
+pub row-behind : (words : List ℕ) (i : ℕ) → rowAt (drop wordLength words) i ≡ rowAt words (suc i)
+unfolding rowAt
+row-behind words i =
+    let one : wordLength + wordLength * i ≡ wordLength * suc i = omega arith in
+    ap (take wordLength) (drop-drop (wordLength * i) wordLength words ∙ ap (λ (k : ℕ). drop k words) one)
 
 module _ (words : List ℕ) (row : ℕ) (inside : wordLength * row + wordLength ≤ length words) where
   pub row-length : length (rowAt words row) ≡ wordLength

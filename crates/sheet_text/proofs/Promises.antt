@@ -16,13 +16,13 @@ use Rattle.pauli_word.specs.Text.{readText, spell}
 use Rattle.action.specs.Lists.{every}
 use Rattle.action.specs.Permutation.{Generator}
 use Rattle.outcome.proofs.Outcomes.{unless-answer}
+use Rattle.action.proofs.Lists.{every-append}
 use Rattle.text.specs.Text.{lineEnd, space, pieces, digitsOf, decimal, zeroDigit, wideDigits}
 use Rattle.sheet_rows.specs.Rows.{refusedName, oneText, missing, joined, row, lineRow, rowFields}
 use Rattle.sheet_lines.specs.Lines.{zeroText, modesOf, lineShape, field, lineChecks}
 use Rattle.sheet_text.specs.Sheet.{tableNames, sheetSize, maxTable, rows, lineGenerators, table, sheetOutcome, printed, sheet}
 use Rattle.sheet_text.proofs.Fits as Fits
 use Rattle.sheet_text.specs.Text.{noEnd, OneLine, front, valueLines, together}
-use Rattle.text.proofs.Numbers.{every-append}
 use Rattle.momentum.specs.Calls.{decision, Decision, kept, dropped, Row}
 
 -- ---- lines

@@ -13,7 +13,8 @@ use Rattle.outcome.specs.declared.Refusal.the-variants as Refusal
 use Rattle.outcome.specs.Outcome.{refusalOf, answer}
 use Rattle.action.specs.Lists.{every}
 use Rattle.keyed.specs.Keyed.{foldKey, tableOf, runningFrom, running}
-use Rattle.keyed.proofs.Folds.{every-append, every-failing, firstFailing-at, running-length, running-split, running-next}
+use Rattle.action.proofs.Lists.{every-append}
+use Rattle.keyed.proofs.Folds.{every-failing, firstFailing-at, running-length, running-split, running-next}
 use Rattle.row_lists.specs.Rows.{rowAt}
 use Rattle.sum_rows.specs.declared.row_sum.RowSum.{RowSum}
 use Rattle.sum_rows.specs.Sums.{finiteSum, foldOutcome}

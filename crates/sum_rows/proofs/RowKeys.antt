@@ -4,11 +4,11 @@ use Prim.Native.Nat.{ℕ, zero, suc, _+_, _*_, _<_, _≤_}
 use native.Mathlib.Nat.{le-of-suc-le-suc, not-suc-le-zero}
 use native.Mathlib.Omega.{arith}
 use mathlib.Core.Path.{_≡_, refl, sym, _∙_, ap}
-use mathlib.Core.Logic.{_⊎_, inl, inr}
-use mathlib.Core.Bool.{Bool, true, false, cond, false≢true}
+use mathlib.Core.Logic.{inl, inr}
+use mathlib.Core.Bool.{Bool, true, false, cond}
 use mathlib.Core.List.{List, [], _∷_, _++_, map}
 use lib.ListN.{length, getD, take, drop, length-drop}
-use lib.Seq.{length-take-le, take-suc, drop-drop}
+use lib.Seq.{length-take-le, take-suc}
 use lib.Ieee.{Float, nan}
 use Rattle.pauli_word.specs.declared.Ordering.{Ordering}
 use Rattle.pauli_word.specs.declared.Ordering.the-variants.{Less, Same, Greater}
@@ -22,7 +22,9 @@ use Rattle.pauli_word.proofs.WordOrder.{order-refl, lessBits-trans, lessBits-to
 use Rattle.action.specs.Lists.{sameNumbers, Member}
 use Rattle.action.proofs.Lists.{sameNumbers-eq, sameNumbers-refl}
 use Rattle.keyed.specs.Keyed.{Orders, Equality, keyOf}
+use Rattle.keyed.proofs.Rising.{neither-less}
 use Rattle.row_lists.specs.Rows.{rowAt}
+use Rattle.row_lists.proofs.Rows.{row-behind}
 use Rattle.sum_rows.specs.Rows.{rowsIn, lessBytes}
 
 -- the bytes of a word
@@ -59,20 +61,13 @@ module _ (a b : List ℕ) where
   unfolding lessBytes
   order-same = order-tests (planeBits a) (planeBits b) Same
 
-neither-less : (xs ys : List Bool) → length xs ≡ length ys → lessBits xs ys ≡ false → lessBits ys xs ≡ false → xs ≡ ys
-neither-less xs ys l e f = go (lessBits-total xs ys l)
-  where
-    go : (lessBits xs ys ≡ true) ⊎ ((xs ≡ ys) ⊎ (lessBits ys xs ≡ true)) → xs ≡ ys
-    go (inl t) = absurd (false≢true (sym e ∙ t))
-    go (inr (inl same)) = same
-    go (inr (inr t)) = absurd (false≢true (sym f ∙ t))
-
 bytes-total : (a b : List ℕ) → RowBytes a → RowBytes b → lessBytes a b ≡ false → lessBytes b a ≡ false → a ≡ b
 unfolding lessBytes
 bytes-total a b pa pb e f =
     let long : length a ≡ length b = pa .0 ∙ sym (pb .0) in
     planeBits-injective a b (pa .1) (pb .1) long
-    (neither-less (planeBits a) (planeBits b) (planeBits-length a ∙ ap (λ (k : ℕ). 8 * k) long ∙ sym (planeBits-length b)) e f)
+    (neither-less lessBits (planeBits a) (planeBits b)
+    (lessBits-total (planeBits a) (planeBits b) (planeBits-length a ∙ ap (λ (k : ℕ). 8 * k) long ∙ sym (planeBits-length b))) e f)
 
 pub byte-orders : Orders RowBytes lessBytes
 unfolding lessBytes
@@ -86,12 +81,6 @@ pub byte-equality : Equality sameNumbers
 byte-equality = record { reflexive = sameNumbers-refl; equal = sameNumbers-eq }
 
 -- ---- rows
-
-row-behind : (words : List ℕ) (i : ℕ) → rowAt (drop wordLength words) i ≡ rowAt words (suc i)
-unfolding rowAt
-row-behind words i =
-    let one : wordLength + wordLength * i ≡ wordLength * suc i = omega arith in
-    ap (take wordLength) (drop-drop (wordLength * i) wordLength words ∙ ap (λ (k : ℕ). drop k words) one)
 
 pub rows-length : (words : List ℕ) (cs : List Float) → length (rowsIn words cs) ≡ length cs
 unfolding rowsIn

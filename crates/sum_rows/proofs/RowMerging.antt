@@ -16,7 +16,7 @@ use Rattle.pauli_word.specs.Limits.{wordLength}
 use Rattle.pauli_word.specs.Bytes.{Bytes}
 use Rattle.action.specs.Lists.{Member, NoRepeats, count}
 use Rattle.action.proofs.Lists.{member-map, of-member-append, member-append-left, member-append-right}
-use Rattle.keyed.specs.Keyed.{rising, insertKey, found, free, slotOf, insertAt, keyOf, contentsOf, leftFold, foldKey, tableOf}
+use Rattle.keyed.specs.Keyed.{rising, insertKey, found, free, slotOf, insertAt, keyOf, contentsOf, foldKey, tableOf}
 use Rattle.keyed.proofs.Rising.{member-getD, rising-rising, rising-member, of-rising-member, rising-noRepeats}
 use Rattle.keyed.proofs.Rising.{insert-found, insert-free, slot-found-below, slot-found-at, slot-free-below, slot-free-new}
 use Rattle.keyed.proofs.Folds.{not-same, contents-length, fold-own, fold-other, fold-none}
@@ -26,6 +26,7 @@ use Rattle.sum_rows.specs.declared.row_sum.RowSum.{RowSum}
 use Rattle.sum_rows.specs.Sums.{noRows, addRow, finiteSum}
 use Rattle.sum_rows.specs.Rows.{rowsIn, lessBytes, byteSums}
 use Rattle.sum_rows.specs.Held.{entryAt, Held, sumFinite, Places}
+use Rattle.sum_rows.proofs.RowSums.{fold-rows}
 use Rattle.sum_rows.proofs.RowKeys.{RowBytes, byte-orders, byte-equality, rows-length, rows-next, row-bytes, keys-bytes}
 
 -- ---- members of lists
@@ -60,11 +61,6 @@ module _ {A B : Type 0} (g : A → B) where
 
 -- ---- how many rows a sum has
 
-leftFold-rows : (s : RowSum) (cs : List Float) → leftFold addRow s cs .rows ≡ s .rows + length cs
-unfolding leftFold addRow
-leftFold-rows s [] = omega arith
-leftFold-rows s (c ∷ cs) = let later = leftFold-rows (addRow s c) cs in omega arith
-
 count-atMost : {A : Type 0} (p : A → Bool) (xs : List A) → count p xs ≤ length xs
 unfolding count
 count-atMost p [] = omega arith
@@ -77,7 +73,7 @@ count-atMost p (a ∷ xs) = go (p a) (count-atMost p xs)
 sum-rows : (k : List ℕ) (rows : List (List ℕ × Float)) → foldKey byteSums k rows .rows ≤ length rows
 unfolding foldKey
 sum-rows k rows =
-    omega (arith, leftFold-rows noRows (contentsOf byteSums k rows), contents-length byteSums k rows, count-atMost (λ row. byteSums .same (row .0) k) rows)
+    omega (arith, fold-rows noRows (contentsOf byteSums k rows), contents-length byteSums k rows, count-atMost (λ row. byteSums .same (row .0) k) rows)
 
 -- ---- the lists as a table
 

@@ -2,8 +2,8 @@
 -- What carries it: reading on from a number never comes below it, so that above the cap nothing changes any more (`readOn-capped`).
 use Prim.Native.Nat.{ℕ, zero, suc, _+_, _-_, _*_, _≤_, _<_, min}
 use mathlib.Core.Path.{_≡_, refl, sym, ap, _∙_}
-use mathlib.Core.Bool.{Bool, true, false, _&&_, not, and-true, and-false, and-assoc}
-use mathlib.Core.List.{List, [], _∷_, _++_}
+use mathlib.Core.Bool.{Bool, true, false, _&&_, not, and-true, and-false}
+use mathlib.Core.List.{List, [], _∷_}
 use native.Mathlib.Nat.{le-trans, min-eq-left, min-eq-right}
 use native.Mathlib.Numerals.{add-one}
 use native.Mathlib.Omega.{arith}
@@ -36,11 +36,6 @@ module _ (p : ℕ → Bool) (text : List ℕ) (i : ℕ) (h : i < length text) wh
 pub every-end : (p : ℕ → Bool) (text : List ℕ) (i : ℕ) → length text ≤ i → every p (drop i text) ≡ true
 unfolding every
 every-end p text i h = simp (drop-of-length-le text h)
-
-pub every-append : {A : Type 0} (p : A → Bool) (xs ys : List A) → every p (xs ++ ys) ≡ (every p xs && every p ys)
-unfolding every
-every-append p [] ys = refl
-every-append p (x ∷ xs) ys = ap (λ (t : Bool). p x && t) (every-append p xs ys) ∙ sym (and-assoc (p x) (every p xs) (every p ys))
 
 pub digit-below : (b : ℕ) → b < zeroDigit → isDigit b ≡ false
 digit-below b h = simp (lt-leb zeroDigit b h)

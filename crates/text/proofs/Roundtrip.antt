@@ -12,8 +12,9 @@ use lib.Dec.{eqb, leb}
 use lib.ListN.{length, getD}
 use borrow.Author.Tests.{eqb-false, ne-eqb, leb-true, not-true}
 use Rattle.action.specs.Lists.{every}
+use Rattle.action.proofs.Lists.{every-append}
 use Rattle.text.specs.Text.{minus, zeroDigit, nineDigit, isDigit, isNumber, readOn, numberOf, digitsOf}
-use Rattle.text.proofs.Numbers.{digit-within, every-append, readOn-grows}
+use Rattle.text.proofs.Numbers.{digit-within, readOn-grows}
 use Rattle.text.proofs.Decimals.{digits-one, digits-more, tenth-below}
 
 -- ---- a number by its first digit
