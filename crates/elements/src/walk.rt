@@ -20,18 +20,6 @@ pub struct LeastWord {
     pub index: usize,
 }
 
-// Copies src over dst.
-pub fn copy(src: &[u8], dst: &mut [u8])
-    requires { ⌜ length (now src) ≡ length (now dst) ⌝ }
-    ensures { λ _. ⌜ now (dst .exit) ≡ now (src .entry) ⌝ }
-{
-    let mut i = 0;
-    while i < src.len() {
-        dst[i] = src[i];
-        i += 1;
-    }
-}
-
 // A word moved by one generator: site q's letter goes to site perm[q].
 pub fn apply_generator(perm: &[u32], sites: usize, word: &[u8]) -> [u8; WORD_BYTES]
     requires { ⌜ Permutes sites (now perm) ⌝ }
@@ -68,7 +56,7 @@ pub fn advance(
         let start = MAX_SITES * g;
         let end = start + sites;
         let moved = apply_generator(&targets[start..end], sites, word);
-        copy(&moved, word);
+        pauli_word::inner::copy(&moved, word);
         let o = orders[g] as usize;
         if rest % o + 1 != o {
             return;
@@ -95,12 +83,12 @@ pub fn fill_orbit(
     ensures { λ _. ⌜ now (list .exit) ≡ encodeAll (orbitList (generatorsIn generators sites (now (targets .entry)) (now (orders .entry))) (lettersIn sites (now (word .entry)))) ⌝ }
 {
     let mut here = [0u8; WORD_BYTES];
-    copy(word, &mut here);
+    pauli_word::inner::copy(word, &mut here);
     let mut i = 0;
     while i < order {
         let at = WORD_BYTES * i;
         let end = at + WORD_BYTES;
-        copy(&here, &mut list[at..end]);
+        pauli_word::inner::copy(&here, &mut list[at..end]);
         advance(targets, orders, generators, sites, i, &mut here);
         i += 1;
     }
@@ -116,7 +104,7 @@ pub fn take_less(here: &[u8], sites: usize, i: usize, best: &mut [u8], index: us
     let Ordering::Less = pauli_word::inner::compare_bytes(here, best) else {
         return index;
     };
-    copy(here, best);
+    pauli_word::inner::copy(here, best);
     i
 }
 
@@ -136,9 +124,9 @@ pub fn canonicalize_odometer(
     ensures index { λ r. ⌜ r .index ≡ forward (generatorsIn generators sites (now (targets .entry)) (now (orders .entry))) (lettersIn sites (now (word .entry))) ⌝ }
 {
     let mut here = [0u8; WORD_BYTES];
-    copy(word, &mut here);
+    pauli_word::inner::copy(word, &mut here);
     let mut best = [0u8; WORD_BYTES];
-    copy(word, &mut best);
+    pauli_word::inner::copy(word, &mut best);
     let mut index = 0;
     let mut i = 0;
     while i < order {

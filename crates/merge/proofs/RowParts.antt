@@ -7,7 +7,7 @@ use Rattle.pauli_word.specs.Limits.{wordLength}
 use Rattle.pauli_word.specs.Bytes.{bytesOf, AcceptedWord}
 use Rattle.group.specs.declared.Group.{Group}
 use Rattle.row_lists.specs.Rows.{rowAt}
-use Rattle.sum_rows.proofs.RowOrder.{part-row}
+use Rattle.row_lists.proofs.Rows.{part-row}
 use Rattle.merge.specs.Calls.{representative, AcceptedRows}
 
 -- from where row i begins to where it ends

@@ -29,7 +29,7 @@ use Rattle.row_lists.specs.Rows.{maxRows, rowAt}
 use Rattle.sum_rows.specs.Sums.{finite}
 use Rattle.sum_rows.specs.Rows.{rowsIn}
 use Rattle.sum_rows.proofs.RowKeys.{rows-length, rows-at, row-bytes}
-use Rattle.sum_rows.proofs.RowOrder.{part-row}
+use Rattle.row_lists.proofs.Rows.{part-row}
 use Rattle.merge.specs.Calls.{rowsAgree, otherRows, manyRows, rowRules, rowChecks, listChecks, sumChecks, AcceptedRows}
 use Rattle.merge.proofs.RowParts.{part}
 

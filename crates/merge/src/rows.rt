@@ -20,7 +20,7 @@ pub fn representatives(group: Group, words: &[u8], rows: usize, out: &mut [u8])
         let end = at + WORD_BYTES;
         let least = orbit::inner::least_of(group, &words[at..end]);
         let found = least.word;
-        elements::walk::copy(&found, &mut out[at..end]);
+        pauli_word::inner::copy(&found, &mut out[at..end]);
         i += 1;
     }
 }

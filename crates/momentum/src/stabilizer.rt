@@ -86,9 +86,9 @@ pub fn canonicalize_with_stabilizer(
     ensures word { λ r. ⌜ r .word ≡ rowWord (decision (generatorsIn generators sites (now (targets .entry)) (now (orders .entry))) (now (modes .entry)) (lettersIn sites (now (word .entry)))) ⌝ }
 {
     let mut here = [0u8; WORD_BYTES];
-    elements::walk::copy(word, &mut here);
+    pauli_word::inner::copy(word, &mut here);
     let mut best = [0u8; WORD_BYTES];
-    elements::walk::copy(word, &mut best);
+    pauli_word::inner::copy(word, &mut best);
     let mut index = 0;
     let mut fixing = 0;
     let mut i = 0;

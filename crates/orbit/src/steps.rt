@@ -30,7 +30,7 @@ pub fn walk_from(group: Group, word: &[u8]) -> Walk
     ensures { λ r. ⌜ (r .group ≡ group) × (r .word ≡ now (word .entry)) × (r .index ≡ 0) ⌝ }
 {
     let mut first = [0u8; WORD_BYTES];
-    elements::walk::copy(word, &mut first);
+    pauli_word::inner::copy(word, &mut first);
     Walk {
         group,
         word: first,

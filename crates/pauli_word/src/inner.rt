@@ -1,4 +1,4 @@
-// What the crates above need of words: their checks, their bits, and how bytes compare. Whoever calls a function here owes its `requires`.
+// What the crates above need of words: their checks, their bits, how bytes compare, and bytes copied. Whoever calls a function here owes its `requires`.
 ghost use mathlib.Core.Path.{_≡_};
 ghost use mathlib.Core.Bool.{false};
 ghost use lib.ListN.{length, getD, take, drop};
@@ -53,6 +53,18 @@ pub fn compare_bytes(a: &[u8], b: &[u8]) -> Ordering
         i += 1;
     }
     Ordering::Same
+}
+
+// Copies src over dst.
+pub fn copy(src: &[u8], dst: &mut [u8])
+    requires { ⌜ length (now src) ≡ length (now dst) ⌝ }
+    ensures { λ _. ⌜ now (dst .exit) ≡ now (src .entry) ⌝ }
+{
+    let mut i = 0;
+    while i < src.len() {
+        dst[i] = src[i];
+        i += 1;
+    }
 }
 
 // The bits of site q.

@@ -1,13 +1,13 @@
--- Rows of a list: read and written over member by member, and what is at each row once one is written over or two are exchanged.
+-- Rows of a list: the part that a row is, and what is at each row once one is written over or two are exchanged.
 use Prim.Native.Nat.{ℕ, suc, _+_, _-_, _*_, _≤_, _<_}
 use mathlib.Core.Path.{_≡_, sym, ap, ap₂, _∙_}
 use mathlib.Core.Logic.{_≢_}
-use mathlib.Core.List.{List, [], _∷_, _++_, append-assoc}
+use mathlib.Core.List.{List, _++_, append-assoc}
 use native.Mathlib.Decide.{ℕ-discrete}
-use native.Mathlib.Numerals.{add-one}
+use native.Mathlib.Nat.{add-sub-cancel-left}
 use native.Mathlib.Omega.{arith, ne-cases}
 use lib.ListN.{length, getD, set, take, drop, length-append, length-take, length-drop, length-set, take-append-drop}
-use lib.Seq.{length-take-le, take-at, drop-at, take-all, take-suc, take-suc-set, drop-drop, drop-append-le, take-append-le, getD-take, getD-drop, getD-set-same, getD-set-other, paste, paste-suc}
+use lib.Seq.{length-take-le, take-at, drop-at, drop-drop, drop-append-le, take-append-le, getD-set-same, getD-set-other}
 use Rattle.pauli_word.specs.Limits.{wordLength}
 use Rattle.row_lists.specs.Rows.{rowAt, withRow, rowsSwapped, swapped}
 
@@ -43,6 +43,19 @@ module _ {A : Type 0} (m s : ℕ) (bs xs : List A) where
 
 -- ---- rows of words
 
+-- the part of a list from where row i begins to where it ends is row i
+pub part-row : (words : List ℕ) (i : ℕ) → take (wordLength * i + wordLength - wordLength * i) (drop (wordLength * i) words) ≡ rowAt words i
+unfolding rowAt
+part-row words i = ap (λ (k : ℕ). take k (drop (wordLength * i) words)) (add-sub-cancel-left (wordLength * i) wordLength)
+
+-- and a row written over that part is written over row i
+pub part-written : (words : List ℕ) (i : ℕ) (bytes : List ℕ)
+    → take (wordLength * i) words ++ (bytes ++ drop (wordLength * i + wordLength - wordLength * i) (drop (wordLength * i) words)) ≡ withRow words i bytes
+unfolding withRow
+part-written words i bytes =
+    ap (λ (l : List ℕ). take (wordLength * i) words ++ (bytes ++ l))
+    (ap (λ (k : ℕ). drop k (drop (wordLength * i) words)) (add-sub-cancel-left (wordLength * i) wordLength) ∙ drop-drop wordLength (wordLength * i) words)
+
 -- the rows behind the first
 pub row-behind : (words : List ℕ) (i : ℕ) → rowAt (drop wordLength words) i ≡ rowAt words (suc i)
 unfolding rowAt
@@ -55,38 +68,7 @@ module _ (words : List ℕ) (row : ℕ) (inside : wordLength * row + wordLength 
   unfolding rowAt
   row-length = simp (length-take, length-drop) (omega arith)
 
-  -- the first i bytes are read, and the next one
-  pub row-next : (out : List ℕ) (i : ℕ) → length out ≡ wordLength → i < wordLength → take i out ≡ take i (rowAt words row)
-      → take (i + 1) (set out i (getD words (wordLength * row + i) 0)) ≡ take (i + 1) (rowAt words row)
-  unfolding rowAt
-  row-next out i long h e =
-      let b : ℕ = getD words (wordLength * row + i) 0 in
-      let same : getD (rowAt words row) i 0 ≡ b = getD-take wordLength (drop (wordLength * row) words) i 0 h ∙ getD-drop (wordLength * row) words i 0 in
-      ap (λ (n : ℕ). take n (set out i b)) (add-one i)
-      ∙ take-suc-set out i b (omega arith)
-      ∙ ap₂ (λ (l : List ℕ) (x : ℕ). l ++ (x ∷ [])) e (sym same)
-      ∙ sym (take-suc (rowAt words row) i 0 (omega (arith, row-length)))
-      ∙ ap (λ (n : ℕ). take n (rowAt words row)) (sym (add-one i))
-
-  pub row-end : (out : List ℕ) (i : ℕ) → length out ≡ wordLength → wordLength ≤ i → take i out ≡ take i (rowAt words row) → out ≡ rowAt words row
-  row-end out i long h e = sym (take-all i out (omega arith)) ∙ e ∙ take-all i (rowAt words row) (omega (arith, row-length))
-
   module _ (bytes : List ℕ) (long : length bytes ≡ wordLength) where
-    -- the first i bytes are written, and the next one
-    pub put-next : (i : ℕ) → i < wordLength
-        → set (paste words (wordLength * row) bytes i) (wordLength * row + i) (getD bytes i 0) ≡ paste words (wordLength * row) bytes (i + 1)
-    put-next i h =
-        paste-suc words (wordLength * row) bytes i 0 (omega arith) (omega arith)
-        ∙ ap (paste words (wordLength * row) bytes) (sym (add-one i))
-
-    pub put-end : (i : ℕ) → wordLength ≤ i → i ≤ wordLength → paste words (wordLength * row) bytes i ≡ withRow words row bytes
-    unfolding withRow
-    put-end i h k =
-        let e : i ≡ wordLength = omega arith in
-        ap (paste words (wordLength * row) bytes) e
-        ∙ ap (λ (l : List ℕ). take (wordLength * row) words ++ l ++ drop (wordLength * row + wordLength) words) (take-all wordLength bytes (omega arith))
-        ∙ append-assoc (take (wordLength * row) words) bytes (drop (wordLength * row + wordLength) words)
-
     pub withRow-length : length (withRow words row bytes) ≡ length words
     unfolding withRow
     withRow-length = over-length wordLength (wordLength * row) bytes words long inside

@@ -14,12 +14,9 @@ pub fn row_of(words: &[u8], row: usize) -> [u8; WORD_BYTES]
     ensures { λ r. ⌜ r ≡ rowAt (now (words .entry)) row ⌝ }
 {
     let start = WORD_BYTES * row;
+    let end = start + WORD_BYTES;
     let mut out = [0u8; WORD_BYTES];
-    let mut i = 0;
-    while i < WORD_BYTES {
-        out[i] = words[start + i];
-        i += 1;
-    }
+    pauli_word::inner::copy(&words[start..end], &mut out);
     out
 }
 
@@ -30,11 +27,8 @@ pub fn put_row(words: &mut [u8], row: usize, bytes: &[u8])
     ensures { λ _. ⌜ now (words .exit) ≡ withRow (now (words .entry)) row (now (bytes .entry)) ⌝ }
 {
     let start = WORD_BYTES * row;
-    let mut i = 0;
-    while i < WORD_BYTES {
-        words[start + i] = bytes[i];
-        i += 1;
-    }
+    let end = start + WORD_BYTES;
+    pauli_word::inner::copy(bytes, &mut words[start..end]);
 }
 
 // Exchanges two rows of words.

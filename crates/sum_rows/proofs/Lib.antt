@@ -1,7 +1,6 @@
 -- Laws of sums in lists.
 pub mod Finite
 pub mod RowSums
-pub mod RowOrder
 pub mod RowKeys
 pub mod Searching
 pub mod Inserting

@@ -6,7 +6,7 @@ use denote.Ref.{now}
 use borrow.Author.Needs.{needs}
 use Rattle.pauli_word.specs.Bytes.{planeBits}
 use Rattle.pauli_word.specs.Calls.{orderOfBits}
-use Rattle.sum_rows.proofs.RowOrder.{part-row}
+use Rattle.row_lists.proofs.Rows.{part-row}
 use Rattle.sum_rows.proofs.search.compare_rows.Statement.{statement}
 use Rattle.sum_rows.proofs.search.compare_rows.Tie as tie
 

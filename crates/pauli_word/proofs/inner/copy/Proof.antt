@@ -1,12 +1,12 @@
--- `walk::copy` meets its contract. The loop's invariant: the first i members of dst are those of src.
+-- `inner::copy` meets its contract. The loop's invariant: the first i members of dst are those of src.
 use Prim.Native.Nat.{_-_, _≤_}
 use mathlib.Core.Path.{_≡_, refl}
 use native.Mathlib.Omega.{arith}
 use denote.Ref.{now}
 use lib.ListN.{length, take, length-set}
-use Rattle.elements.proofs.Copies.{copy-next, copy-end}
-use Rattle.elements.proofs.walk.copy.Statement.{statement}
-use Rattle.elements.proofs.walk.copy.Tie as tie
+use Rattle.pauli_word.proofs.Copies.{copy-next, copy-end}
+use Rattle.pauli_word.proofs.inner.copy.Statement.{statement}
+use Rattle.pauli_word.proofs.inner.copy.Tie as tie
 
 abbrev Inv-loop : tie.InvT-loop
 Inv-loop src dst₀ i₀ dst i = (i ≤ length src) × (length dst ≡ length dst₀) × (take i dst ≡ take i src)
