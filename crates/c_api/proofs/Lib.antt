@@ -1,0 +1,2 @@
+-- Laws of what calls come to as numbers.
+pub mod Telling

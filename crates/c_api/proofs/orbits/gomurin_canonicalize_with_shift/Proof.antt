@@ -1,0 +1,42 @@
+-- `gomurin_canonicalize_with_shift` meets its contract: it tells what `orbit::canonicalize_with_shift` comes to.
+use Rattle.c_api.proofs.Telling.{number-told, values-told}
+use Rattle.c_api.specs.Told.{groupIn}
+use Rattle.group.specs.declared.Group.{Group}
+use Rattle.orbit.specs.Calls.{noWord, shiftOf, withShiftOutcome, wordOf}
+use Rattle.outcome.specs.Outcome.{done, onAnswer, orElse}
+use denote.Ref.{now}
+use lib.ListN.{length}
+use mathlib.Core.Path.{_∙_, ap}
+use borrow.Author.Needs.{needs}
+use Rattle.c_api.proofs.orbits.gomurin_canonicalize_with_shift.Statement.{statement}
+use Rattle.c_api.proofs.orbits.gomurin_canonicalize_with_shift.Tie as tie
+
+group-in-requires : tie.Need-group-in-requires
+group-in-requires c κs = search needs
+
+canonicalize-with-shift-requires : tie.Need-canonicalize-with-shift-requires
+canonicalize-with-shift-requires c κs = search needs
+
+verdict-requires : tie.Need-verdict-requires
+verdict-requires c κs = search needs
+
+same-length : tie.Need-same-length
+same-length c = search needs
+
+returns : tie.Need-returns
+returns c =
+    let a = c .before .before .before .before .before .before .before .before .before .before .args in
+    let same = c .before .before .before .before .before .before .before .group-in .ensures in
+    let held = groupIn (a .sites) (a .generators) (now (a .orders)) (now (a .targets)) in
+    let e = c .before .before .before .before .before .canonicalize-with-shift .ensures .0 ∙ ap (λ (g : Group). onAnswer done (withShiftOutcome g (a .n) (now (a .word)) (length (now (a .counter))))) same in
+    (c .verdict .ensures .0 ∙ number-told done (withShiftOutcome held (a .n) (now (a .word)) (length (now (a .counter)))) e, (c .before .before .before .before .before .canonicalize-with-shift .ensures .1 .0 ∙ ap (λ (g : Group). orElse wordOf noWord (withShiftOutcome g (a .n) (now (a .word)) (length (now (a .counter))))) same, (c .before .before .before .before .before .canonicalize-with-shift .ensures .1 .1 ∙ ap (λ (g : Group). orElse shiftOf (now (a .counter)) (withShiftOutcome g (a .n) (now (a .word)) (length (now (a .counter))))) same, c .verdict .ensures .1 ∙ values-told done (withShiftOutcome held (a .n) (now (a .word)) (length (now (a .counter)))) e)))
+
+pub gomurin-canonicalize-with-shift-spec : {M : Type 1} → statement M
+gomurin-canonicalize-with-shift-spec =
+    tie.close
+    (tie.spec
+    group-in-requires
+    canonicalize-with-shift-requires
+    verdict-requires
+    same-length
+    returns)

@@ -1,0 +1,45 @@
+-- `gomurin_canonicalize_in_sector` meets its contract: it tells what `momentum::canonicalize_in_sector` comes to.
+use Rattle.c_api.proofs.Telling.{else-told, kept-row, number-told, size-row, values-told}
+use Rattle.c_api.specs.Told.{groupIn, isKept, sizeIn}
+use Rattle.group.specs.Value.{generatorsOf}
+use Rattle.group.specs.declared.Group.{Group}
+use Rattle.momentum.specs.Calls.{rowCounter, rowWord, sectorOutcome, sizeOf}
+use Rattle.orbit.specs.Calls.{noWord}
+use Rattle.outcome.specs.Outcome.{onAnswer, orElse}
+use denote.Ref.{now}
+use lib.ListN.{length}
+use mathlib.Core.Bool.{false}
+use mathlib.Core.Path.{_∙_, ap}
+use borrow.Author.Needs.{needs}
+use Rattle.c_api.proofs.sectors.gomurin_canonicalize_in_sector.Statement.{statement}
+use Rattle.c_api.proofs.sectors.gomurin_canonicalize_in_sector.Tie as tie
+
+group-in-requires : tie.Need-group-in-requires
+group-in-requires c κs = search needs
+
+canonicalize-in-sector-requires : tie.Need-canonicalize-in-sector-requires
+canonicalize-in-sector-requires c κs = search needs
+
+sector-requires : tie.Need-sector-requires
+sector-requires c κs = search needs
+
+same-length : tie.Need-same-length
+same-length c = search needs
+
+returns : tie.Need-returns
+returns c =
+    let a = c .before .before .before .before .before .before .before .before .before .before .before .before .args in
+    let same = c .before .before .before .before .before .before .before .before .before .group-in .ensures in
+    let held = groupIn (a .sites) (a .generators) (now (a .orders)) (now (a .targets)) in
+    let e = c .before .before .before .before .before .before .before .canonicalize-in-sector .ensures .0 ∙ ap (λ (g : Group). onAnswer sizeOf (sectorOutcome g (a .n) (now (a .word)) (now (a .modes)) (length (now (a .counter))))) same in
+    (c .sector .ensures .0 ∙ number-told sizeOf (sectorOutcome held (a .n) (now (a .word)) (now (a .modes)) (length (now (a .counter)))) e, (c .before .before .before .before .before .before .before .canonicalize-in-sector .ensures .1 .0 ∙ ap (λ (g : Group). orElse rowWord noWord (sectorOutcome g (a .n) (now (a .word)) (now (a .modes)) (length (now (a .counter))))) same, (c .before .before .before .before .before .before .before .canonicalize-in-sector .ensures .1 .1 ∙ ap (λ (g : Group). orElse (rowCounter (generatorsOf g) (now (a .counter))) (now (a .counter)) (sectorOutcome g (a .n) (now (a .word)) (now (a .modes)) (length (now (a .counter))))) same, (c .sector .ensures .1 .0 ∙ else-told sizeOf (sectorOutcome held (a .n) (now (a .word)) (now (a .modes)) (length (now (a .counter)))) e sizeIn 0 ∙ size-row (sectorOutcome held (a .n) (now (a .word)) (now (a .modes)) (length (now (a .counter)))), (c .sector .ensures .1 .1 .0 ∙ else-told sizeOf (sectorOutcome held (a .n) (now (a .word)) (now (a .modes)) (length (now (a .counter)))) e isKept false ∙ kept-row (sectorOutcome held (a .n) (now (a .word)) (now (a .modes)) (length (now (a .counter)))), c .sector .ensures .1 .1 .1 ∙ values-told sizeOf (sectorOutcome held (a .n) (now (a .word)) (now (a .modes)) (length (now (a .counter)))) e)))))
+
+pub gomurin-canonicalize-in-sector-spec : {M : Type 1} → statement M
+gomurin-canonicalize-in-sector-spec =
+    tie.close
+    (tie.spec
+    group-in-requires
+    canonicalize-in-sector-requires
+    sector-requires
+    same-length
+    returns)

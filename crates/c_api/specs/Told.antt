@@ -1,0 +1,87 @@
+-- What calls come to, as the numbers that C is handed.
+use Prim.Native.Nat.{ℕ}
+use mathlib.Core.Bool.{Bool, true, false}
+use mathlib.Core.List.{List, [], _∷_}
+use lib.ListN.{getD}
+use lib.IntN.{ℤ, pos, negsuc}
+use Rattle.outcome.specs.Outcome.{Outcome, refused, answer}
+use Rattle.pauli_word.specs.declared.Ordering.{Ordering}
+use Rattle.pauli_word.specs.declared.Ordering.the-variants.{Less, Same, Greater}
+use Rattle.group.specs.declared.Group.{Group}
+use Rattle.orbit.specs.declared.Walk.{Walk}
+use Rattle.orbit.specs.Calls.{Entry, entry, finished}
+use Rattle.momentum.specs.Calls.{Decision, kept, dropped, Row}
+use Rattle.sheet_text.specs.Sheet.{Page, tablePage, refusalPage}
+
+-- what a rule names, in four places, zeros after it
+abbrev pub placed : List ℕ → List ℕ
+placed vs = getD vs 0 0 ∷ getD vs 1 0 ∷ getD vs 2 0 ∷ getD vs 3 0 ∷ []
+
+-- the number that a call returns: 0 for an answer, else the rule's
+abbrev pub numberOf : {A : Type 0} → Outcome A → ℕ
+numberOf (refused k vs) = k
+numberOf (answer a) = 0
+
+-- what it writes beside it: what the rule names, and zeros beside an answer
+abbrev pub valuesOf : {A : Type 0} → Outcome A → List ℕ
+valuesOf (refused k vs) = placed vs
+valuesOf (answer a) = placed []
+
+-- the group of four parts
+abbrev pub groupIn : ℕ → ℕ → List ℕ → List ℕ → Group
+groupIn sites generators orders targets = record { sites = sites; generators = generators; orders = orders; targets = targets }
+
+-- how a word stands to another, as C's comparisons have it
+abbrev pub signOf : Ordering → ℤ
+signOf Less = negsuc 0
+signOf Same = pos 0
+signOf Greater = pos 1
+
+-- ---- walks
+
+-- the walk of a group, a word and an index
+abbrev pub walkIn : Group → List ℕ → ℕ → Walk
+walkIn g word index = record { group = g; word = word; index = index }
+
+-- the index of an entry; 0 at the end
+abbrev pub indexOfEntry : Entry → ℕ
+indexOfEntry (entry i) = i
+indexOfEntry finished = 0
+
+abbrev pub isFinished : Entry → Bool
+isFinished (entry i) = false
+isFinished finished = true
+
+-- ---- sectors
+
+-- the orbit size of a kept word; 0 of a dropped one
+abbrev pub sizeIn : Decision ℕ → ℕ
+sizeIn (kept size) = size
+sizeIn dropped = 0
+
+abbrev pub rowSize : Decision Row → ℕ
+rowSize (kept r) = r .size
+rowSize dropped = 0
+
+abbrev pub isKept : {A : Type 0} → Decision A → Bool
+isKept (kept a) = true
+isKept dropped = false
+
+-- ---- the sheet: a refused sheet is printed too, and is refused by its own rule
+
+abbrev pub pageNumber : Outcome Page → ℕ
+pageNumber (refused k vs) = k
+pageNumber (answer (tablePage length)) = 0
+pageNumber (answer (refusalPage k line vs length)) = k
+
+-- the line, and then what the rule names
+abbrev pub pageValues : Outcome Page → List ℕ
+pageValues (refused k vs) = placed vs
+pageValues (answer (tablePage length)) = placed []
+pageValues (answer (refusalPage k line vs length)) = placed (line ∷ vs)
+
+-- how many bytes are written
+abbrev pub pageLength : Outcome Page → ℕ
+pageLength (refused k vs) = 0
+pageLength (answer (tablePage length)) = length
+pageLength (answer (refusalPage k line vs length)) = length

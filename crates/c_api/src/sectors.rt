@@ -1,0 +1,90 @@
+// Sectors: phase numerators, and which words modes keep.
+ghost use mathlib.Core.Path.{_≡_};
+ghost use mathlib.Core.Bool.{false};
+ghost use lib.ListN.{length};
+ghost use Rattle.outcome.specs.Outcome.{orElse, itself};
+ghost use Rattle.group.specs.Value.{generatorsOf};
+ghost use Rattle.orbit.specs.Calls.{noWord};
+ghost use Rattle.momentum.specs.Calls.{numeratorOutcome, tableOutcome, sectorOutcome, rowWord, rowCounter};
+ghost use Rattle.c_api.specs.Told.{numberOf, valuesOf, groupIn, rowSize, isKept};
+use crate::VALUES;
+use crate::told;
+use pauli_word::WORD_BYTES;
+use permutation::MAX_GENERATORS;
+use permutation::TARGET_PLACES;
+
+// The numerator of a counter: the sum of (k c mod o) (M / o) over the generators, mod M, with M the phase modulus. Modes and digits may be any; they are
+// reduced.
+#[no_mangle]
+pub extern "C" fn gomurin_character_numerator(
+    sites: usize,
+    generators: usize,
+    orders: &[u32; MAX_GENERATORS],
+    targets: &[u32; TARGET_PLACES],
+    modes: &[i32],
+    counter: &[u32],
+    numerator: &mut usize,
+    values: &mut [usize; VALUES],
+) -> usize
+    ensures number { λ r. ⌜ r ≡ numberOf (numeratorOutcome (groupIn sites generators (now (orders .entry)) (now (targets .entry))) (now (modes .entry)) (now (counter .entry))) ⌝ }
+    ensures numerator { λ _. ⌜ now (numerator .exit) ≡ orElse itself 0 (numeratorOutcome (groupIn sites generators (now (orders .entry)) (now (targets .entry))) (now (modes .entry)) (now (counter .entry))) ⌝ }
+    ensures values { λ _. ⌜ now (values .exit) ≡ valuesOf (numeratorOutcome (groupIn sites generators (now (orders .entry)) (now (targets .entry))) (now (modes .entry)) (now (counter .entry))) ⌝ }
+{
+    let held = told::group_in(sites, generators, orders, targets);
+    told::number(
+        momentum::character_numerator(held, modes, counter),
+        numerator,
+        values,
+    )
+}
+
+// The numerators of all indices, generator 0 fastest, into a list with an entry for each.
+#[no_mangle]
+pub extern "C" fn gomurin_character_table(
+    sites: usize,
+    generators: usize,
+    orders: &[u32; MAX_GENERATORS],
+    targets: &[u32; TARGET_PLACES],
+    modes: &[i32],
+    list: &mut [usize],
+    values: &mut [usize; VALUES],
+) -> usize
+    ensures number { λ r. ⌜ r ≡ numberOf (tableOutcome (groupIn sites generators (now (orders .entry)) (now (targets .entry))) (now (modes .entry)) (length (now (list .entry)))) ⌝ }
+    ensures list { λ _. ⌜ now (list .exit) ≡ orElse itself (now (list .entry)) (tableOutcome (groupIn sites generators (now (orders .entry)) (now (targets .entry))) (now (modes .entry)) (length (now (list .entry)))) ⌝ }
+    ensures values { λ _. ⌜ now (values .exit) ≡ valuesOf (tableOutcome (groupIn sites generators (now (orders .entry)) (now (targets .entry))) (now (modes .entry)) (length (now (list .entry)))) ⌝ }
+{
+    let held = told::group_in(sites, generators, orders, targets);
+    told::verdict(momentum::character_table(held, modes, list), values)
+}
+
+// Whether modes keep a word. A kept word comes with the least word of its orbit, the counter of the index that leads from there back to the word, into a
+// list with a place for each generator, and the orbit size. Of a dropped word the least word and the size are zeros, and the counter stays.
+#[no_mangle]
+pub extern "C" fn gomurin_canonicalize_in_sector(
+    sites: usize,
+    generators: usize,
+    orders: &[u32; MAX_GENERATORS],
+    targets: &[u32; TARGET_PLACES],
+    n: usize,
+    word: &[u8],
+    modes: &[i32],
+    least: &mut [u8; WORD_BYTES],
+    counter: &mut [u32],
+    size: &mut usize,
+    kept: &mut bool,
+    values: &mut [usize; VALUES],
+) -> usize
+    ensures number { λ r. ⌜ r ≡ numberOf (sectorOutcome (groupIn sites generators (now (orders .entry)) (now (targets .entry))) n (now (word .entry)) (now (modes .entry)) (length (now (counter .entry)))) ⌝ }
+    ensures least { λ _. ⌜ now (least .exit) ≡ orElse rowWord noWord (sectorOutcome (groupIn sites generators (now (orders .entry)) (now (targets .entry))) n (now (word .entry)) (now (modes .entry)) (length (now (counter .entry)))) ⌝ }
+    ensures counter { λ _. ⌜ now (counter .exit) ≡ orElse (rowCounter (generatorsOf (groupIn sites generators (now (orders .entry)) (now (targets .entry)))) (now (counter .entry))) (now (counter .entry)) (sectorOutcome (groupIn sites generators (now (orders .entry)) (now (targets .entry))) n (now (word .entry)) (now (modes .entry)) (length (now (counter .entry)))) ⌝ }
+    ensures size { λ _. ⌜ now (size .exit) ≡ orElse rowSize 0 (sectorOutcome (groupIn sites generators (now (orders .entry)) (now (targets .entry))) n (now (word .entry)) (now (modes .entry)) (length (now (counter .entry)))) ⌝ }
+    ensures kept { λ _. ⌜ now (kept .exit) ≡ orElse isKept false (sectorOutcome (groupIn sites generators (now (orders .entry)) (now (targets .entry))) n (now (word .entry)) (now (modes .entry)) (length (now (counter .entry)))) ⌝ }
+    ensures values { λ _. ⌜ now (values .exit) ≡ valuesOf (sectorOutcome (groupIn sites generators (now (orders .entry)) (now (targets .entry))) n (now (word .entry)) (now (modes .entry)) (length (now (counter .entry)))) ⌝ }
+{
+    let held = told::group_in(sites, generators, orders, targets);
+    let found = momentum::canonicalize_in_sector(held, n, word, modes, counter);
+    let bytes = found.word;
+    *least = bytes;
+    let answer = found.answer;
+    told::sector(answer, size, kept, values)
+}

@@ -1,0 +1,194 @@
+/* Gomurin for C: symmetry tables of spin lattices, every answer proved. The library is built by `rt staticlib c_api`, which writes
+ * target/staticlib/libc_api.a; link it and include this file.
+ *
+ * How things are passed. A slice is two parameters, the address of its first element and the number of its elements; the address of an empty slice
+ * may be any that is not null and is aligned. An array of fixed length is the address of its first element, and the caller has all of its elements
+ * there. A list that a call writes overlaps nothing else that the call is handed.
+ *
+ * A group is four parts: the number of sites, the number of generators, their orders (GOMURIN_MAX_GENERATORS places) and their targets
+ * (GOMURIN_TARGETS places, those of generator g from GOMURIN_MAX_SITES * g on); unused places are 0. Generator g moves the letter of site q to site
+ * targets[GOMURIN_MAX_SITES * g + q]. An index stands for digits, one below each order, generator 0 fastest. A walk over an orbit is a group, the word
+ * that its next step gives and that step's index.
+ *
+ * A word is GOMURIN_WORD_BYTES bytes, the X plane and then the Z plane; site q is bit q mod 8 of a plane's byte q div 8, least significant first. The
+ * letters by (X bit, Z bit): I 00, Z 01, X 10, Y 11.
+ *
+ * Every call returns 0 for an answer, else the number of the first rule that its input breaks (below), and writes GOMURIN_VALUES numbers: what the rule
+ * names, and zeros after it; zeros beside an answer. A refused call leaves lists (slices) as they were, but for 25; what else a call hands back
+ * is then zeros, or a group or a walk that every call refuses. No call asks anything of its caller but that addresses and lengths are true.
+ *
+ *   1 more than 256 sites                          17 a word bit at or above the site count (in a sum: its row)
+ *   2 the generator list ends inside a generator   18 not one mode for each generator
+ *   3 more than 4 generators                       19 an index not below the group order
+ *   4 counts of permutations and orders (both)     20 not one digit for each generator
+ *   5 a permutation's length (generator, length)   21 a list of another length than needed
+ *   6 a target out of range (generator, target)    22 lists of a sum that disagree in rows
+ *   7 a target twice (generator, target)           23 more than 4,096 rows
+ *   8 order 0 (generator)                          24 a coefficient that is not finite (row)
+ *   9 an exact order above 32 bits (generator)     25 a running sum that is not finite (row); the lists are then zeros
+ *  10 declared and exact order (generator, both)   26 a lattice side 0
+ *  11 two generators do not commute (both)         27 sides of more than 256 sites
+ *  12 a group order above 64 bits                  28 a text word of more than 256 letters
+ *  13 a group order above 1,048,576                29 a letter other than I, X, Y, Z (position)
+ *  14 no group value, or no walk value             30 a sheet of more than 65,536 bytes
+ *  15 a word of other than 64 bytes                31 a sheet line of another form
+ *  16 a word's site count is not the group's
+ */
+#ifndef GOMURIN_H
+#define GOMURIN_H
+
+#include <stdbool.h>
+#include <stddef.h>
+#include <stdint.h>
+
+#define GOMURIN_MAX_SITES 256
+#define GOMURIN_WORD_BYTES 64
+#define GOMURIN_MAX_GENERATORS 4
+#define GOMURIN_TARGETS 1024
+#define GOMURIN_MAX_ROWS 4096
+#define GOMURIN_MAX_TABLE 262208
+#define GOMURIN_VALUES 4
+
+#ifdef __cplusplus
+extern "C" {
+#endif
+
+/* ---- words */
+
+/* The word that a text writes, a letter a byte, and its site count. */
+size_t gomurin_from_text(const uint8_t *text, size_t text_length, size_t *sites, uint8_t word[GOMURIN_WORD_BYTES],
+                         size_t values[GOMURIN_VALUES]);
+
+/* The text of a word of n sites, a letter a byte and zeros after it, and how many letters. */
+size_t gomurin_to_text(size_t n, const uint8_t *word, size_t word_length, size_t *letters, uint8_t text[GOMURIN_MAX_SITES],
+                       size_t values[GOMURIN_VALUES]);
+
+/* The weight of a word of n sites: the ones of both planes together. */
+size_t gomurin_weight(size_t n, const uint8_t *word, size_t word_length, size_t *weight, size_t values[GOMURIN_VALUES]);
+
+/* How word a stands to word b, both of n sites: -1 less, 0 the same, 1 greater. At the first bit that differs, reading the X plane from site 0 and
+ * then the Z plane, the lesser has 0. */
+size_t gomurin_compare(size_t n, const uint8_t *a, size_t a_length, const uint8_t *b, size_t b_length, int32_t *order,
+                       size_t values[GOMURIN_VALUES]);
+
+/* ---- level 1: groups */
+
+/* The group of n sites by a buyer's generators, in one list, each its length and then its targets, and their declared orders. */
+size_t gomurin_try_from_generators(size_t n, const uint32_t *list, size_t list_length, const uint32_t *declared, size_t declared_length,
+                                   size_t *sites, size_t *generators, uint32_t orders[GOMURIN_MAX_GENERATORS],
+                                   uint32_t targets[GOMURIN_TARGETS], size_t values[GOMURIN_VALUES]);
+
+/* A ring of n sites: site q moves to q + 1, round at the end. */
+size_t gomurin_chain_1d(size_t n, size_t *sites, size_t *generators, uint32_t orders[GOMURIN_MAX_GENERATORS],
+                        uint32_t targets[GOMURIN_TARGETS], size_t values[GOMURIN_VALUES]);
+
+/* Legs of l sites each, site j of a leg at leg * l + j: all legs shift together along their length. */
+size_t gomurin_ladder(size_t l, size_t legs, size_t *sites, size_t *generators, uint32_t orders[GOMURIN_MAX_GENERATORS],
+                      uint32_t targets[GOMURIN_TARGETS], size_t values[GOMURIN_VALUES]);
+
+/* A torus of lx by ly sites, (i, j) at j * lx + i: the shifts of i and of j. */
+size_t gomurin_torus_2d(size_t lx, size_t ly, size_t *sites, size_t *generators, uint32_t orders[GOMURIN_MAX_GENERATORS],
+                        uint32_t targets[GOMURIN_TARGETS], size_t values[GOMURIN_VALUES]);
+
+/* A torus of lx by ly by lz sites, (i, j, k) at k * lx * ly + j * lx + i: the shifts of i, of j and of k. */
+size_t gomurin_torus_3d(size_t lx, size_t ly, size_t lz, size_t *sites, size_t *generators,
+                        uint32_t orders[GOMURIN_MAX_GENERATORS], uint32_t targets[GOMURIN_TARGETS],
+                        size_t values[GOMURIN_VALUES]);
+
+/* The group order: the product of the orders, so that two equal generators count as two. */
+size_t gomurin_order(size_t sites, size_t generators, const uint32_t orders[GOMURIN_MAX_GENERATORS],
+                     const uint32_t targets[GOMURIN_TARGETS], size_t *order, size_t values[GOMURIN_VALUES]);
+
+/* The phase modulus: the least common multiple of the orders. */
+size_t gomurin_phase_modulus(size_t sites, size_t generators, const uint32_t orders[GOMURIN_MAX_GENERATORS],
+                             const uint32_t targets[GOMURIN_TARGETS], size_t *modulus, size_t values[GOMURIN_VALUES]);
+
+/* The digits of an index, generator 0 first, into a list with a place for each generator. */
+size_t gomurin_counter_from_index(size_t sites, size_t generators, const uint32_t orders[GOMURIN_MAX_GENERATORS],
+                                  const uint32_t targets[GOMURIN_TARGETS], size_t index, uint32_t *counter, size_t counter_length,
+                                  size_t values[GOMURIN_VALUES]);
+
+/* The index of the inverse element. */
+size_t gomurin_invert_index(size_t sites, size_t generators, const uint32_t orders[GOMURIN_MAX_GENERATORS],
+                            const uint32_t targets[GOMURIN_TARGETS], size_t index, size_t *inverse, size_t values[GOMURIN_VALUES]);
+
+/* ---- level 1: orbits */
+
+/* The least word of a word's orbit. */
+size_t gomurin_canonicalize(size_t sites, size_t generators, const uint32_t orders[GOMURIN_MAX_GENERATORS],
+                            const uint32_t targets[GOMURIN_TARGETS], size_t n, const uint8_t *word, size_t word_length,
+                            uint8_t least[GOMURIN_WORD_BYTES], size_t values[GOMURIN_VALUES]);
+
+/* The same, and the index that leads from the least word back to the word: the inverse of the smallest one that reaches it. */
+size_t gomurin_canonicalize_with_index(size_t sites, size_t generators, const uint32_t orders[GOMURIN_MAX_GENERATORS],
+                                       const uint32_t targets[GOMURIN_TARGETS], size_t n, const uint8_t *word,
+                                       size_t word_length, uint8_t least[GOMURIN_WORD_BYTES], size_t *index,
+                                       size_t values[GOMURIN_VALUES]);
+
+/* The same with the counter of that index, into a list with a place for each generator. */
+size_t gomurin_canonicalize_with_shift(size_t sites, size_t generators, const uint32_t orders[GOMURIN_MAX_GENERATORS],
+                                       const uint32_t targets[GOMURIN_TARGETS], size_t n, const uint8_t *word,
+                                       size_t word_length, uint8_t least[GOMURIN_WORD_BYTES], uint32_t *counter,
+                                       size_t counter_length, size_t values[GOMURIN_VALUES]);
+
+/* The orbit list: the bytes of one entry for each index, repeats included, into a list of GOMURIN_WORD_BYTES times the order. */
+size_t gomurin_orbit_list(size_t sites, size_t generators, const uint32_t orders[GOMURIN_MAX_GENERATORS],
+                          const uint32_t targets[GOMURIN_TARGETS], size_t n, const uint8_t *word, size_t word_length, uint8_t *list,
+                          size_t list_length, size_t values[GOMURIN_VALUES]);
+
+/* Begins a walk over a word's orbit, from the group and the word: the word and the index of its next step. */
+size_t gomurin_orbit(size_t sites, size_t generators, const uint32_t orders[GOMURIN_MAX_GENERATORS],
+                     const uint32_t targets[GOMURIN_TARGETS], size_t n, const uint8_t *word, size_t word_length,
+                     uint8_t at[GOMURIN_WORD_BYTES], size_t *index, size_t values[GOMURIN_VALUES]);
+
+/* A step of a walk: the entry's word and index, and the walk after it. After the last entry it answers finished and changes nothing of the walk. */
+size_t gomurin_next(size_t sites, size_t generators, const uint32_t orders[GOMURIN_MAX_GENERATORS],
+                    const uint32_t targets[GOMURIN_TARGETS], uint8_t at[GOMURIN_WORD_BYTES], size_t *index,
+                    uint8_t word[GOMURIN_WORD_BYTES], size_t *entry, bool *finished, size_t values[GOMURIN_VALUES]);
+
+/* ---- level 2: sectors */
+
+/* The numerator of a counter: the sum of (k c mod o) (M / o) over the generators, mod M, with M the phase modulus. Modes and digits may be any;
+ * they are reduced. */
+size_t gomurin_character_numerator(size_t sites, size_t generators, const uint32_t orders[GOMURIN_MAX_GENERATORS],
+                                   const uint32_t targets[GOMURIN_TARGETS], const int32_t *modes, size_t modes_length,
+                                   const uint32_t *counter, size_t counter_length, size_t *numerator,
+                                   size_t values[GOMURIN_VALUES]);
+
+/* The numerators of all indices, generator 0 fastest, into a list with an entry for each. */
+size_t gomurin_character_table(size_t sites, size_t generators, const uint32_t orders[GOMURIN_MAX_GENERATORS],
+                               const uint32_t targets[GOMURIN_TARGETS], const int32_t *modes, size_t modes_length, size_t *list,
+                               size_t list_length, size_t values[GOMURIN_VALUES]);
+
+/* Whether modes keep a word. A kept word comes with the least word of its orbit, the counter of the index that leads from there back to the word, into
+ * a list with a place for each generator, and the orbit size. Of a dropped word the least word and the size are zeros, and the counter stays. */
+size_t gomurin_canonicalize_in_sector(size_t sites, size_t generators, const uint32_t orders[GOMURIN_MAX_GENERATORS],
+                                      const uint32_t targets[GOMURIN_TARGETS], size_t n, const uint8_t *word,
+                                      size_t word_length, const int32_t *modes, size_t modes_length,
+                                      uint8_t least[GOMURIN_WORD_BYTES], uint32_t *counter, size_t counter_length, size_t *size,
+                                      bool *kept, size_t values[GOMURIN_VALUES]);
+
+/* ---- level 3: sums */
+
+/* Folds a sum onto representatives: rows of GOMURIN_WORD_BYTES bytes and a coefficient each. The three output lists have as many rows; each output row
+ * is a representative, the sum of the coefficients of the rows that have it, added to 0.0 in input order, and how many rows these are, in rising order
+ * of the words, with zeros after the last row. `rows` takes how many there are. */
+size_t gomurin_canonicalize_pauli_sum(size_t sites, size_t generators, const uint32_t orders[GOMURIN_MAX_GENERATORS],
+                                      const uint32_t targets[GOMURIN_TARGETS], const uint8_t *words, size_t words_length,
+                                      const double *coefficients, size_t coefficients_length, uint8_t *representatives,
+                                      size_t representatives_length, double *sums, size_t sums_length, uint32_t *counts,
+                                      size_t counts_length, size_t *rows, size_t values[GOMURIN_VALUES]);
+
+/* ---- the sheet */
+
+/* What a sheet prints, at the front of a list, and how many bytes that is; the rest of the list stays. GOMURIN_MAX_TABLE bytes suffice for any sheet. Of a refused
+ * sheet that is the one line that says so; its values are the line of the sheet, 0 for the sheet as a whole, and then what the rule names. 21 is a list
+ * that is too short; it stays, and nothing is written. */
+size_t gomurin_sheet(const uint8_t *input, size_t input_length, uint8_t *list, size_t list_length, size_t *written,
+                     size_t values[GOMURIN_VALUES]);
+
+#ifdef __cplusplus
+}
+#endif
+
+#endif
