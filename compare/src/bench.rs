@@ -1,0 +1,2 @@
+pub fn lines() {}
+pub fn table() {}

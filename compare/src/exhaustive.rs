@@ -1,0 +1,157 @@
+//! Short inputs, all of them: every word of up to 4 sites under every lattice of that size and every mode list, every pair of short words, every short
+//! generator list; and the count of pairs that are kept.
+
+use crate::cases::*;
+use crate::groups::identity;
+use crate::guard::Side;
+use crate::ours::Ours;
+use crate::rust::Rust;
+use crate::sizes::*;
+use crate::words::word_bytes;
+
+const MOST_SITES: usize = 4;
+
+/// All lists of so many members, each of which is below its bound.
+fn lists(bounds: &[usize]) -> Vec<Vec<usize>> {
+    bounds.iter().fold(vec![vec![]], |lists, &bound| {
+        let longer = |list: &Vec<usize>| (0..bound).map(|member| [&list[..], &[member]].concat()).collect::<Vec<_>>();
+        lists.iter().flat_map(longer).collect()
+    })
+}
+
+/// All texts of so many letters.
+fn texts(sites: usize) -> Vec<Vec<u8>> {
+    lists(&vec![4; sites]).iter().map(|list| list.iter().map(|&i| b"IXYZ"[i]).collect()).collect()
+}
+
+/// The group without generators and all lattices of so many sites.
+fn groups(sites: usize) -> Vec<Line> {
+    let mut groups = vec![Line::Group { sites, list: vec![], orders: vec![] }];
+    for a in 1..=sites {
+        for b in (1..=sites / a).filter(|b| sites.is_multiple_of(a * b)) {
+            let c = sites / a / b;
+            groups.push(Line::Lattice(Lattice::Torus3(a, b, c)));
+            if c == 1 {
+                groups.extend([Line::Lattice(Lattice::Torus2(a, b)), Line::Lattice(Lattice::Ladder(a, b))]);
+            }
+        }
+    }
+    if sites > 0 {
+        groups.push(Line::Lattice(Lattice::Chain(sites)));
+    }
+    groups
+}
+
+/// The order of each generator of a group.
+fn orders(line: &Line) -> Vec<usize> {
+    let mut rust = Rust::new();
+    rust.answer(line);
+    let group = rust.group().expect("an accepted group");
+    (0..group.n_generators()).map(|g| group.generator_order(g) as usize).collect()
+}
+
+fn mode_lists(orders: &[usize]) -> Vec<Vec<i32>> {
+    lists(orders).iter().map(|list| list.iter().map(|&mode| mode as i32).collect()).collect()
+}
+
+pub fn cases() -> Vec<Case> {
+    let all_groups = || (0..=MOST_SITES).flat_map(|sites| groups(sites).into_iter().map(move |line| (sites, line)));
+    let of_words = all_groups().flat_map(|(sites, line)| texts(sites).into_iter().map(move |text| word_case(&line, text)));
+    let of_tables = all_groups().map(|(_, line)| table_case(&line));
+    of_words.chain(of_tables).chain((0..=3).flat_map(compare_cases)).chain(list_cases()).collect()
+}
+
+/// All that is asked of a word under a group, and every mode list.
+fn word_case(line: &Line, text: Vec<u8>) -> Case {
+    let orders = orders(line);
+    let (order, places) = (orders.iter().product::<usize>(), orders.len());
+    let mut case = vec![line.clone(), Line::Word(text), Line::Text, Line::Canonicalize, Line::WithIndex, Line::WithShift { places }];
+    case.extend([Line::OrbitList { bytes: WORD_BYTES * order }, Line::Orbit, Line::Next(order + 2)]);
+    for modes in mode_lists(&orders) {
+        case.extend([Line::Modes(modes), Line::Sector { places }]);
+    }
+    case
+}
+
+/// Every index of a group and every mode list.
+fn table_case(line: &Line) -> Case {
+    let orders = orders(line);
+    let (order, places) = (orders.iter().product::<usize>(), orders.len());
+    let mut case = vec![line.clone(), Line::Targets, Line::Order, Line::Modulus];
+    case.extend((0..order).flat_map(|index| [Line::Counter { index, places }, Line::Invert(index)]));
+    for modes in mode_lists(&orders) {
+        case.extend([Line::Modes(modes), Line::Table { places: order }]);
+        case.extend(lists(&orders).iter().map(|digits| Line::Numerator(digits.iter().map(|&digit| digit as u32).collect())));
+    }
+    case
+}
+
+/// Every word beside every other.
+fn compare_cases(sites: usize) -> Vec<Case> {
+    let compares = || texts(sites).into_iter().map(|text| Line::Compare(word_bytes(&text)));
+    texts(sites).into_iter().map(|text| [Line::Word(text)].into_iter().chain(compares()).collect()).collect()
+}
+
+/// Every list of up to two generators on up to 2 sites and of one on 3, targets one too large and orders 0 to 3; every pair of permutations of up to
+/// 4 sites.
+fn list_cases() -> Vec<Case> {
+    let mut cases = Vec::new();
+    for (sites, generators) in [(0, 0), (0, 1), (0, 2), (1, 1), (1, 2), (2, 1), (2, 2), (3, 1)] {
+        let bounds = [vec![sites + 1; sites * generators], vec![4; generators]].concat();
+        for choice in lists(&bounds) {
+            let numbers: Vec<u32> = choice.iter().map(|&number| number as u32).collect();
+            let (targets, orders) = numbers.split_at(sites * generators);
+            let perms: Vec<&[u32]> = (0..generators).map(|g| &targets[sites * g..][..sites]).collect();
+            cases.push(list_case(sites, &perms, orders));
+        }
+    }
+    for sites in 2..=MOST_SITES {
+        let perms: Vec<(Vec<u32>, u32)> = permutations(sites).into_iter().map(|perm| (perm.clone(), order_of(&perm))).collect();
+        for (left, a) in &perms {
+            cases.extend(perms.iter().map(|(right, b)| list_case(sites, &[left, right], &[*a, *b])));
+        }
+    }
+    cases
+}
+
+fn list_case(sites: usize, perms: &[&[u32]], orders: &[u32]) -> Case {
+    let list = perms.iter().flat_map(|perm| [&[perm.len() as u32], *perm].concat()).collect();
+    vec![Line::Group { sites, list, orders: orders.to_vec() }, Line::Targets, Line::Order, Line::Modulus]
+}
+
+fn permutations(sites: usize) -> Vec<Vec<u32>> {
+    let lists = lists(&vec![sites; sites]).into_iter();
+    let different = lists.filter(|list| (0..sites).all(|q| list.contains(&q)));
+    different.map(|list| list.iter().map(|&q| q as u32).collect()).collect()
+}
+
+fn order_of(perm: &[u32]) -> u32 {
+    let apply = |power: &Vec<u32>| power.iter().map(|&q| perm[q as usize]).collect::<Vec<u32>>();
+    let powers = std::iter::successors(Some(perm.to_vec()), |power| Some(apply(power)));
+    1 + powers.take_while(|power| *power != identity(perm.len())).count() as u32
+}
+
+/// The groups under which kept pairs are counted, with their sites.
+pub fn counted() -> Vec<(usize, Line)> {
+    (0..=MOST_SITES).flat_map(|sites| groups(sites).into_iter().map(move |line| (sites, line))).collect()
+}
+
+/// Over all mode lists and representatives of n sites there are 4^n pairs in which our library keeps the word.
+pub fn count_pairs(sites: usize, line: &Line) -> Result<(), String> {
+    let mut ours = Ours::new(Side::After);
+    let orders = orders(line);
+    ours.answer(line);
+    let mut kept = 0;
+    for text in texts(sites) {
+        ours.answer(&Line::Word(text.clone()));
+        if ours.answer(&Line::Canonicalize).as_bytes() != text {
+            continue;
+        }
+        for modes in mode_lists(&orders) {
+            ours.answer(&Line::Modes(modes));
+            kept += usize::from(ours.answer(&Line::Sector { places: orders.len() }).starts_with("kept"));
+        }
+    }
+    let expected = 4usize.pow(sites as u32);
+    if kept == expected { Ok(()) } else { Err(format!("{line}\nkept pairs: {kept}, and there are {expected} words")) }
+}

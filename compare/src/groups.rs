@@ -1,0 +1,332 @@
+//! Groups: lattices, buyers' own numberings of them, products, powers and repetitions of commuting permutations; generator lists with faults; and the
+//! cases that ask for orders, counters and inverses.
+
+use crate::cases::*;
+use crate::random::Random;
+use crate::rust::lattice_group;
+use crate::sizes::*;
+use ppvm_pauli_sum::symmetry::group::TranslationGroup;
+
+/// How large a group may be.
+#[derive(Clone, Copy)]
+pub struct Bounds {
+    pub sites: usize,
+    pub order: usize,
+}
+
+impl Bounds {
+    pub const ALL: Bounds = Bounds { sites: MAX_SITES, order: MAX_ORDER };
+
+    /// Any number of sites; mostly few elements, since each walk takes as many steps.
+    pub fn common(random: &mut Random) -> Bounds {
+        let order = match random.below(1000) {
+            0 => 16_384,
+            1..=9 => 2_048,
+            10..=99 => 256,
+            _ => 48,
+        };
+        Bounds { sites: MAX_SITES, order }
+    }
+
+    /// Few sites and few elements, for a list that is replayed.
+    pub fn small(random: &mut Random) -> Bounds {
+        if random.once_in(50) { Bounds { sites: MAX_SITES, order: 256 } } else { Bounds { sites: 24, order: 24 } }
+    }
+}
+
+/// An accepted group and the line that makes it.
+pub struct Chosen {
+    pub line: Line,
+    pub group: TranslationGroup,
+}
+
+type Permutation = Vec<u32>;
+
+/// Permutations of the sites and their declared orders: what a generator list says.
+struct Generators {
+    sites: usize,
+    permutations: Vec<Permutation>,
+    orders: Vec<u32>,
+}
+
+impl Generators {
+    fn line(&self) -> Line {
+        let list = self.permutations.iter().flat_map(|perm| [&[perm.len() as u32], &perm[..]].concat()).collect();
+        Line::Group { sites: self.sites, list, orders: self.orders.clone() }
+    }
+
+    fn chosen(self) -> Chosen {
+        let line = self.line();
+        Chosen { line, group: TranslationGroup::from_generators(self.sites, self.permutations, self.orders) }
+    }
+}
+
+/// A random group within bounds.
+pub fn group(random: &mut Random, bounds: Bounds) -> Chosen {
+    match random.below(8) {
+        0..=1 => {
+            let lattice = lattice(random, bounds);
+            Chosen { line: Line::Lattice(lattice), group: lattice_group(lattice).unwrap_or_else(|_| unreachable!()) }
+        }
+        2 => own_numbering(random, bounds).chosen(),
+        _ => commuting(random, bounds).chosen(),
+    }
+}
+
+/// A group of more than so many elements.
+pub fn large_group(random: &mut Random, above: usize) -> Chosen {
+    loop {
+        let order = if random.once_in(12) { MAX_ORDER } else { 2 * above };
+        let chosen = commuting(random, Bounds { sites: MAX_SITES, order }).chosen();
+        if chosen.group.order() > above {
+            return chosen;
+        }
+    }
+}
+
+/// A lattice; its order is at most its sites.
+pub fn lattice(random: &mut Random, bounds: Bounds) -> Lattice {
+    let sites = 1 + random.size(bounds.sites.min(bounds.order) - 1);
+    let (a, b, c) = sides(random, sites);
+    match random.below(4) {
+        0 => Lattice::Chain(sites),
+        1 => Lattice::Ladder(a, b * c),
+        2 => Lattice::Torus2(a, b * c),
+        _ => Lattice::Torus3(a, b, c),
+    }
+}
+
+/// Three sides whose product is near a number of sites and not above it.
+fn sides(random: &mut Random, sites: usize) -> (usize, usize, usize) {
+    let a = random.within(1..=sites);
+    let b = random.within(1..=sites / a);
+    (a, b, sites / a / b)
+}
+
+/// The shifts of a lattice, its sites numbered otherwise.
+fn own_numbering(random: &mut Random, bounds: Bounds) -> Generators {
+    let group = lattice_group(lattice(random, bounds)).unwrap_or_else(|_| unreachable!());
+    let labels = labels(random, group.n_qubits());
+    let shifts = 0..group.n_generators();
+    Generators {
+        sites: group.n_qubits(),
+        permutations: shifts.clone().map(|g| relabelled(group.generator_perm(g), &labels)).collect(),
+        orders: shifts.map(|g| group.generator_order(g)).collect(),
+    }
+}
+
+/// None to four generators: products of powers of shifts that commute, powers of one another, equal ones, identities.
+fn commuting(random: &mut Random, bounds: Bounds) -> Generators {
+    let sites = site_count(random, bounds.sites);
+    let shifts = shifts(random, sites);
+    let mut permutations: Vec<Permutation> = Vec::new();
+    let mut orders = Vec::new();
+    let mut room = bounds.order as u64;
+    for _ in 0..random.below(MAX_GENERATORS + 1) {
+        let mut permutation = match random.below(10) {
+            0 => identity(sites),
+            1 if !permutations.is_empty() => random.pick(&permutations),
+            2 if !permutations.is_empty() => power(&random.pick(&permutations), random.below(8)),
+            _ => product(random, &shifts, sites),
+        };
+        while exact_order(&permutation) > room {
+            permutation = power(&permutation, least_factor(exact_order(&permutation)));
+        }
+        let order = exact_order(&permutation);
+        room /= order;
+        orders.push(order as u32);
+        permutations.push(permutation);
+    }
+    if random.once_in(2) {
+        let labels = labels(random, sites);
+        permutations = permutations.iter().map(|permutation| relabelled(permutation, &labels)).collect();
+    }
+    Generators { sites, permutations, orders }
+}
+
+/// A number of sites: any, few, or one beside the end of a byte or of a machine word.
+pub fn site_count(random: &mut Random, bound: usize) -> usize {
+    match random.below(4) {
+        0 => random.within(0..=bound),
+        1 => random.pick(&[0, 1, 2, 7, 8, 9, 31, 32, 33, 63, 64, 65, 127, 128, 129, 191, 192, 255, 256]).min(bound),
+        _ => random.size(bound),
+    }
+}
+
+/// Permutations that commute: the shifts of lattices that stand side by side.
+fn shifts(random: &mut Random, sites: usize) -> Vec<Permutation> {
+    let mut shifts = Vec::new();
+    let mut start = 0;
+    while start < sites && shifts.len() < 24 {
+        let (a, b, c) = {
+            let length = if random.once_in(4) { sites - start } else { 1 + random.size(sites - start - 1) };
+            sides(random, length)
+        };
+        for (stride, side) in [(1, a), (a, b), (a * b, c)] {
+            shifts.push((0..sites).map(|q| shifted(q, start, a * b * c, stride, side) as u32).collect());
+        }
+        start += a * b * c;
+    }
+    shifts
+}
+
+/// The site that a shift moves site q to: along a side with this stride, in the lattice of so many sites from a start on.
+fn shifted(q: usize, start: usize, sites: usize, stride: usize, side: usize) -> usize {
+    if q < start || q >= start + sites {
+        return q;
+    }
+    let along = (q - start) / stride % side;
+    q - along * stride + (along + 1) % side * stride
+}
+
+fn product(random: &mut Random, shifts: &[Permutation], sites: usize) -> Permutation {
+    let mut product = identity(sites);
+    for _ in 0..random.within(1..=4) {
+        if !shifts.is_empty() {
+            let exponent = if random.once_in(2) { 1 } else { random.below(12) };
+            product = after(&power(&random.pick(shifts), exponent), &product);
+        }
+    }
+    product
+}
+
+pub fn identity(sites: usize) -> Permutation {
+    (0..sites as u32).collect()
+}
+
+/// First the one permutation, then the other.
+pub fn after(second: &[u32], first: &[u32]) -> Permutation {
+    first.iter().map(|&q| second[q as usize]).collect()
+}
+
+pub fn power(permutation: &[u32], exponent: usize) -> Permutation {
+    (0..exponent).fold(identity(permutation.len()), |product, _| after(permutation, &product))
+}
+
+fn labels(random: &mut Random, sites: usize) -> Permutation {
+    let mut labels = identity(sites);
+    random.shuffle(&mut labels);
+    labels
+}
+
+/// A permutation of sites after each site q is named labels[q].
+fn relabelled(permutation: &[u32], labels: &[u32]) -> Permutation {
+    let mut result = vec![0; labels.len()];
+    for (q, &target) in permutation.iter().enumerate() {
+        result[labels[q] as usize] = labels[target as usize];
+    }
+    result
+}
+
+/// The least common multiple of the cycle lengths; on 256 sites it has at most 55 bits.
+fn exact_order(permutation: &[u32]) -> u64 {
+    let mut seen = vec![false; permutation.len()];
+    let mut order = 1;
+    for start in 0..permutation.len() {
+        let (mut length, mut q) = (0, start);
+        while !seen[q] {
+            seen[q] = true;
+            length += 1;
+            q = permutation[q] as usize;
+        }
+        if length > 0 {
+            order = order / gcd(order, length) * length;
+        }
+    }
+    order
+}
+
+fn gcd(a: u64, b: u64) -> u64 {
+    if b == 0 { a } else { gcd(b, a % b) }
+}
+
+fn least_factor(number: u64) -> usize {
+    (2..).find(|&factor| number.is_multiple_of(factor)).unwrap() as usize
+}
+
+/// The permutation that the element of an index is.
+pub fn element(group: &TranslationGroup, index: usize) -> Permutation {
+    let counter = group.counter_from_index(index);
+    let powers = counter.iter().enumerate().map(|(g, &count)| power(group.generator_perm(g), count as usize));
+    powers.fold(identity(group.n_qubits()), |product, next| after(&next, &product))
+}
+
+/// Orders, counters and inverses of an accepted group.
+pub fn case(random: &mut Random, bounds: Bounds) -> Case {
+    let Chosen { line, group } = group(random, bounds);
+    let mut case = vec![line, Line::Targets, Line::Order, Line::Modulus];
+    let (order, places) = (group.order(), group.n_generators());
+    for index in [0, order - 1, random.below(order), random.below(order)] {
+        case.extend([Line::Counter { index, places }, Line::Invert(index)]);
+    }
+    case
+}
+
+/// A generator list with up to three faults, and the order of what it gives.
+pub fn faulty_case(random: &mut Random, bounds: Bounds) -> Case {
+    let mut generators = if random.once_in(3) { long_cycles(random) } else { commuting(random, bounds) };
+    for _ in 0..random.below(4) {
+        spoil(random, &mut generators);
+    }
+    let Line::Group { sites, mut list, orders } = generators.line() else { unreachable!() };
+    if random.once_in(16) {
+        list.truncate(random.below(list.len() + 1));
+    }
+    vec![Line::Group { sites, list, orders }, Line::Order, Line::Modulus]
+}
+
+/// Generators of high order: powers of a permutation whose cycles have different prime lengths.
+fn long_cycles(random: &mut Random) -> Generators {
+    let mut lengths = vec![2, 3, 4, 5, 7, 11, 13, 17, 19, 23, 29, 31, 37, 109];
+    random.shuffle(&mut lengths);
+    lengths.truncate(random.within(3..=10));
+    let mut permutation = Vec::new();
+    for length in lengths {
+        let start = permutation.len();
+        if start + length <= MAX_SITES {
+            permutation.extend((0..length).map(|q| (start + (q + 1) % length) as u32));
+        }
+    }
+    let permutations: Vec<Permutation> = (0..random.within(1..=4)).map(|_| power(&permutation, random.within(1..=3))).collect();
+    let orders = permutations.iter().map(|permutation| exact_order(permutation) as u32).collect();
+    Generators { sites: permutation.len(), permutations, orders }
+}
+
+/// Spoils a generator list in one way, where that is possible.
+fn spoil(random: &mut Random, generators: &mut Generators) {
+    let Generators { sites, permutations, orders } = generators;
+    let g = random.below(permutations.len().max(1));
+    match (random.below(10), permutations.get_mut(g)) {
+        (0, _) => *sites = random.pick(&[sites.saturating_sub(1), *sites + 1, MAX_SITES + 1, 0, usize::MAX]),
+        (1, _) => orders.push(random.below(3) as u32),
+        (2, _) => orders.truncate(orders.len().saturating_sub(1)),
+        (3, _) => {
+            for _ in 0..random.within(1..=4) {
+                permutations.push(identity(*sites % (MAX_SITES + 1)));
+                orders.push(1);
+            }
+        }
+        (4, Some(permutation)) => permutation.push(random.below(*sites % MAX_SITES + 2) as u32),
+        (5, Some(permutation)) if !permutation.is_empty() => {
+            let any = random.bits() as u32;
+            let target = random.pick(&[*sites as u32, u32::MAX, any, permutation[0]]);
+            let q = random.below(permutation.len());
+            permutation[q] = target;
+        }
+        (6, Some(permutation)) if permutation.len() > 1 => {
+            let (a, b) = (random.below(permutation.len()), random.below(permutation.len()));
+            permutation.swap(a, b);
+            let valid = permutation.iter().all(|&target| (target as usize) < permutation.len());
+            if valid && g < orders.len() {
+                orders[g] = exact_order(permutation) as u32;
+            }
+        }
+        (7, _) if g < orders.len() => orders[g] = 0,
+        (8, _) if g < orders.len() => {
+            let any = random.below(300) as u32;
+            orders[g] = random.pick(&[1, u32::MAX, orders[g].wrapping_mul(2), orders[g] / 2, any]);
+        }
+        (9, Some(permutation)) if permutation.len() > 1 => permutation.truncate(random.below(permutation.len())),
+        _ => (),
+    }
+}

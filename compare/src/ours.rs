@@ -1,0 +1,467 @@
+//! Our answers: each line of a case is put to the library through its C interface. Every list stands in guarded memory.
+
+use crate::cases::*;
+use crate::guard::{FILL, Lent, Memory, Side};
+use crate::interface::*;
+use crate::sizes::*;
+use std::cmp::Ordering;
+
+/// What is in force between the lines of a case.
+pub struct Ours {
+    memory: Memory,
+    group: Group,
+    sites: usize,
+    word: Vec<u8>,
+    modes: Vec<i32>,
+    walk: Walk,
+    words: Vec<u8>,
+    coefficients: Vec<f64>,
+}
+
+struct Walk {
+    group: Group,
+    at: Vec<u8>,
+    index: usize,
+}
+
+/// A group value lent to a call.
+struct LentGroup {
+    sites: usize,
+    generators: usize,
+    orders: Lent<u32>,
+    targets: Lent<u32>,
+}
+
+/// Room for a group value that a call hands back.
+struct GroupRoom {
+    sites: Lent<usize>,
+    generators: Lent<usize>,
+    orders: Lent<u32>,
+    targets: Lent<u32>,
+}
+
+impl Ours {
+    pub fn new(side: Side) -> Ours {
+        Ours {
+            memory: Memory::new(side),
+            group: Group::EMPTY,
+            sites: 0,
+            word: Vec::new(),
+            modes: Vec::new(),
+            walk: Walk { group: Group::EMPTY, at: vec![0; WORD_BYTES], index: 0 },
+            words: Vec::new(),
+            coefficients: Vec::new(),
+        }
+    }
+
+    /// The answer to a line, and a word on it where the call touched what it may not.
+    pub fn answer(&mut self, line: &Line) -> String {
+        let answer = self.said(line);
+        self.looked_after(answer)
+    }
+
+    fn looked_after(&mut self, answer: String) -> String {
+        if self.memory.untouched() { answer } else { answer + ", and it wrote where it may not" }
+    }
+
+    fn said(&mut self, line: &Line) -> String {
+        match line {
+            Line::Group { sites, list, orders } => self.try_from_generators(*sites, list, orders),
+            Line::Lattice(lattice) => self.lattice(*lattice),
+            Line::Set(place, value) => set(|| self.group.set(*place, *value)),
+            Line::Order => self.order(gomurin_order),
+            Line::Modulus => self.order(gomurin_phase_modulus),
+            Line::Targets => targets(&self.group),
+            Line::Counter { index, places } => self.counter_from_index(*index, *places),
+            Line::Invert(index) => self.invert_index(*index),
+            Line::Word(text) => self.from_text(text),
+            Line::Bytes { sites, bytes } => set(|| (self.sites, self.word) = (*sites, bytes.clone())),
+            Line::Text => self.to_text(),
+            Line::Weight => self.weight(),
+            Line::Compare(bytes) => self.compare(bytes),
+            Line::Canonicalize => self.canonicalize(),
+            Line::WithIndex => self.canonicalize_with_index(),
+            Line::WithShift { places } => self.canonicalize_with_shift(*places),
+            Line::OrbitList { bytes } => self.orbit_list(*bytes),
+            Line::Orbit => self.orbit(),
+            Line::SetIndex(value) => set(|| self.walk.index = *value),
+            Line::SetWalk(place, value) => set(|| self.walk.group.set(*place, *value)),
+            Line::SetAt { byte, value } => set(|| self.walk.at[*byte] = *value),
+            Line::Next(number) => steps(&(0..*number).map(|_| self.next()).collect::<Vec<_>>()),
+            Line::Modes(modes) => set(|| self.modes = modes.clone()),
+            Line::Numerator(digits) => self.character_numerator(digits),
+            Line::Table { places } => self.character_table(*places),
+            Line::Sector { places } => self.canonicalize_in_sector(*places),
+            Line::Clear => set(|| (self.words, self.coefficients) = (Vec::new(), Vec::new())),
+            Line::Row(coefficient) => set(|| self.row(*coefficient)),
+            Line::Sum => {
+                let rows = self.coefficients.len();
+                self.canonicalize_pauli_sum([WORD_BYTES * rows, rows, WORD_BYTES * rows, rows, rows])
+            }
+            Line::SumOf { words, coefficients, representatives, sums, counts } => {
+                self.canonicalize_pauli_sum([*words, *coefficients, *representatives, *sums, *counts])
+            }
+            Line::Sheet { places, text } => self.sheet(*places, text),
+        }
+    }
+
+    // ---- words
+
+    fn from_text(&mut self, text: &[u8]) -> String {
+        let m = &mut self.memory;
+        let (text, sites, word, values) = (m.lend(text), m.room::<usize>(1), m.room::<u8>(WORD_BYTES), m.room(VALUES));
+        let rule = unsafe { gomurin_from_text(text.at, text.length, sites.at, word.at, values.at) };
+        (self.sites, self.word) = (sites.first(), word.get().to_vec());
+        said(rule, values, &[zeros(sites), zeros(word)], || sites.first().to_string())
+    }
+
+    fn to_text(&mut self) -> String {
+        let m = &mut self.memory;
+        let (word, length, text, values) = (m.lend(&self.word), m.room(1), m.room::<u8>(MAX_SITES), m.room(VALUES));
+        let rule = unsafe { gomurin_to_text(self.sites, word.at, word.length, length.at, text.at, values.at) };
+        said(rule, values, &[zeros(length), zeros(text)], || {
+            let (text, rest) = text.get().split_at(length.first());
+            visible(text) + if rest.iter().all(|&byte| byte == 0) { "" } else { " and more after it" }
+        })
+    }
+
+    fn weight(&mut self) -> String {
+        let m = &mut self.memory;
+        let (word, weight, values) = (m.lend(&self.word), m.room(1), m.room(VALUES));
+        let rule = unsafe { gomurin_weight(self.sites, word.at, word.length, weight.at, values.at) };
+        said(rule, values, &[zeros(weight)], || weight.first().to_string())
+    }
+
+    fn compare(&mut self, other: &[u8]) -> String {
+        let m = &mut self.memory;
+        let (a, b, order, values) = (m.lend(&self.word), m.lend(other), m.room::<i32>(1), m.room(VALUES));
+        let rule = unsafe { gomurin_compare(self.sites, a.at, a.length, b.at, b.length, order.at, values.at) };
+        said(rule, values, &[zeros(order)], || match order.first() {
+            -1 => ordering(Ordering::Less).to_string(),
+            0 => ordering(Ordering::Equal).to_string(),
+            1 => ordering(Ordering::Greater).to_string(),
+            other => format!("order {other}"),
+        })
+    }
+
+    // ---- groups
+
+    fn try_from_generators(&mut self, sites: usize, list: &[u32], declared: &[u32]) -> String {
+        let (list, declared, room) = (self.memory.lend(list), self.memory.lend(declared), GroupRoom::of(&mut self.memory));
+        let values = self.memory.room(VALUES);
+        let (n, g, o, t) = room.at();
+        let rule = unsafe {
+            gomurin_try_from_generators(sites, list.at, list.length, declared.at, declared.length, n, g, o, t, values.at)
+        };
+        self.group = room.group();
+        said(rule, values, &[], || "accepted".to_string())
+    }
+
+    fn lattice(&mut self, lattice: Lattice) -> String {
+        let room = GroupRoom::of(&mut self.memory);
+        let values = self.memory.room(VALUES);
+        let (n, g, o, t) = room.at();
+        let rule = unsafe {
+            match lattice {
+                Lattice::Chain(a) => gomurin_chain_1d(a, n, g, o, t, values.at),
+                Lattice::Ladder(a, b) => gomurin_ladder(a, b, n, g, o, t, values.at),
+                Lattice::Torus2(a, b) => gomurin_torus_2d(a, b, n, g, o, t, values.at),
+                Lattice::Torus3(a, b, c) => gomurin_torus_3d(a, b, c, n, g, o, t, values.at),
+            }
+        };
+        self.group = room.group();
+        said(rule, values, &[], || "accepted".to_string())
+    }
+
+    /// `gomurin_order` or `gomurin_phase_modulus`.
+    fn order(&mut self, call: unsafe extern "C" fn(usize, usize, *const u32, *const u32, *mut usize, *mut usize) -> usize) -> String {
+        let m = &mut self.memory;
+        let (group, number, values) = (LentGroup::of(m, &self.group), m.room(1), m.room(VALUES));
+        let rule = unsafe { call(group.sites, group.generators, group.orders.at, group.targets.at, number.at, values.at) };
+        said(rule, values, &[zeros(number)], || number.first().to_string())
+    }
+
+    fn counter_from_index(&mut self, index: usize, places: usize) -> String {
+        let m = &mut self.memory;
+        let (group, counter, values) = (LentGroup::of(m, &self.group), m.room_with(&vec![u32::from(FILL); places]), m.room(VALUES));
+        let rule = unsafe {
+            gomurin_counter_from_index(
+                group.sites, group.generators, group.orders.at, group.targets.at, index, counter.at, counter.length, values.at,
+            )
+        };
+        said(rule, values, &[], || "done".to_string()) + ":" + &list(counter.get())
+    }
+
+    fn invert_index(&mut self, index: usize) -> String {
+        let m = &mut self.memory;
+        let (group, inverse, values) = (LentGroup::of(m, &self.group), m.room(1), m.room(VALUES));
+        let rule = unsafe {
+            gomurin_invert_index(group.sites, group.generators, group.orders.at, group.targets.at, index, inverse.at, values.at)
+        };
+        said(rule, values, &[zeros(inverse)], || inverse.first().to_string())
+    }
+
+    // ---- orbits
+
+    fn canonicalize(&mut self) -> String {
+        let m = &mut self.memory;
+        let (group, word) = (LentGroup::of(m, &self.group), m.lend(&self.word));
+        let (least, values) = (m.room::<u8>(WORD_BYTES), m.room(VALUES));
+        let rule = unsafe {
+            gomurin_canonicalize(
+                group.sites, group.generators, group.orders.at, group.targets.at, self.sites, word.at, word.length, least.at, values.at,
+            )
+        };
+        said(rule, values, &[zeros(least)], || letters(self.sites, least.get()))
+    }
+
+    fn canonicalize_with_index(&mut self) -> String {
+        let m = &mut self.memory;
+        let (group, word) = (LentGroup::of(m, &self.group), m.lend(&self.word));
+        let (least, index, values) = (m.room::<u8>(WORD_BYTES), m.room(1), m.room(VALUES));
+        let rule = unsafe {
+            gomurin_canonicalize_with_index(
+                group.sites, group.generators, group.orders.at, group.targets.at, self.sites, word.at, word.length, least.at, index.at,
+                values.at,
+            )
+        };
+        said(rule, values, &[zeros(least), zeros(index)], || format!("{} {}", letters(self.sites, least.get()), index.first()))
+    }
+
+    fn canonicalize_with_shift(&mut self, places: usize) -> String {
+        let m = &mut self.memory;
+        let (group, word) = (LentGroup::of(m, &self.group), m.lend(&self.word));
+        let (least, counter, values) = (m.room::<u8>(WORD_BYTES), m.room_with(&vec![u32::from(FILL); places]), m.room(VALUES));
+        let rule = unsafe {
+            gomurin_canonicalize_with_shift(
+                group.sites, group.generators, group.orders.at, group.targets.at, self.sites, word.at, word.length, least.at, counter.at,
+                counter.length, values.at,
+            )
+        };
+        said(rule, values, &[zeros(least)], || letters(self.sites, least.get())) + ":" + &list(counter.get())
+    }
+
+    fn orbit_list(&mut self, bytes: usize) -> String {
+        let m = &mut self.memory;
+        let (group, word) = (LentGroup::of(m, &self.group), m.lend(&self.word));
+        let (entries, values) = (m.room::<u8>(bytes), m.room(VALUES));
+        let rule = unsafe {
+            gomurin_orbit_list(
+                group.sites, group.generators, group.orders.at, group.targets.at, self.sites, word.at, word.length, entries.at,
+                entries.length, values.at,
+            )
+        };
+        let refused = said(rule, values, &[], String::new);
+        if rule != 0 {
+            return refused + if filled(entries) { ", as it was" } else { ", changed" };
+        }
+        refused + "done:" + &list(entries.get().chunks(WORD_BYTES).map(|entry| letters(self.sites, entry)))
+    }
+
+    fn orbit(&mut self) -> String {
+        let m = &mut self.memory;
+        let (group, word) = (LentGroup::of(m, &self.group), m.lend(&self.word));
+        let (at, index, values) = (m.room::<u8>(WORD_BYTES), m.room(1), m.room(VALUES));
+        let rule = unsafe {
+            gomurin_orbit(
+                group.sites, group.generators, group.orders.at, group.targets.at, self.sites, word.at, word.length, at.at, index.at,
+                values.at,
+            )
+        };
+        self.walk = Walk { group: self.group.clone(), at: at.get().to_vec(), index: index.first() };
+        said(rule, values, &[], || "begun".to_string())
+    }
+
+    fn next(&mut self) -> String {
+        let m = &mut self.memory;
+        let (group, at, index) = (LentGroup::of(m, &self.walk.group), m.room_with(&self.walk.at), m.room_with(&[self.walk.index]));
+        let (word, entry, finished, values) = (m.room::<u8>(WORD_BYTES), m.room::<usize>(1), m.room::<u8>(1), m.room(VALUES));
+        let rule = unsafe {
+            gomurin_next(
+                group.sites, group.generators, group.orders.at, group.targets.at, at.at, index.at, word.at, entry.at, finished.at, values.at,
+            )
+        };
+        let stayed = at.get() == self.walk.at && index.first() == self.walk.index;
+        (self.walk.at, self.walk.index) = (at.get().to_vec(), index.first());
+        let sites = self.walk.group.sites;
+        let answer = said(rule, values, &[zeros(word), zeros(entry), zeros(finished)], || match finished.first() {
+            0 => format!("{} {}", entry.first(), letters(sites, word.get())),
+            1 if stayed && zeros(word) && zeros(entry) => "finished".to_string(),
+            other => format!("finished {other}, but not as it was"),
+        });
+        self.looked_after(answer)
+    }
+
+    // ---- sectors
+
+    fn character_numerator(&mut self, digits: &[u32]) -> String {
+        let m = &mut self.memory;
+        let (group, modes, counter) = (LentGroup::of(m, &self.group), m.lend(&self.modes), m.lend(digits));
+        let (numerator, values) = (m.room(1), m.room(VALUES));
+        let rule = unsafe {
+            gomurin_character_numerator(
+                group.sites, group.generators, group.orders.at, group.targets.at, modes.at, modes.length, counter.at, counter.length,
+                numerator.at, values.at,
+            )
+        };
+        said(rule, values, &[zeros(numerator)], || numerator.first().to_string())
+    }
+
+    fn character_table(&mut self, places: usize) -> String {
+        let m = &mut self.memory;
+        let (group, modes) = (LentGroup::of(m, &self.group), m.lend(&self.modes));
+        let (table, values) = (m.room_with(&vec![usize::from(FILL); places]), m.room(VALUES));
+        let rule = unsafe {
+            gomurin_character_table(
+                group.sites, group.generators, group.orders.at, group.targets.at, modes.at, modes.length, table.at, table.length, values.at,
+            )
+        };
+        said(rule, values, &[], || "done".to_string()) + ":" + &list(table.get())
+    }
+
+    fn canonicalize_in_sector(&mut self, places: usize) -> String {
+        let m = &mut self.memory;
+        let (group, word, modes) = (LentGroup::of(m, &self.group), m.lend(&self.word), m.lend(&self.modes));
+        let (least, counter, size) = (m.room::<u8>(WORD_BYTES), m.room_with(&vec![u32::from(FILL); places]), m.room::<usize>(1));
+        let (kept, values) = (m.room::<u8>(1), m.room(VALUES));
+        let rule = unsafe {
+            gomurin_canonicalize_in_sector(
+                group.sites, group.generators, group.orders.at, group.targets.at, self.sites, word.at, word.length, modes.at, modes.length,
+                least.at, counter.at, counter.length, size.at, kept.at, values.at,
+            )
+        };
+        let answer = said(rule, values, &[zeros(least), zeros(size), zeros(kept)], || match kept.first() {
+            1 => format!("kept {} {}", size.first(), letters(self.sites, least.get())),
+            0 if zeros(least) && zeros(size) => "dropped".to_string(),
+            other => format!("kept {other}, but something is handed back"),
+        });
+        answer + ":" + &list(counter.get())
+    }
+
+    // ---- sums
+
+    fn row(&mut self, coefficient: f64) {
+        let mut word = self.word.clone();
+        word.resize(WORD_BYTES, 0);
+        self.words.extend(word);
+        self.coefficients.push(coefficient);
+    }
+
+    /// The lengths are those of the words, coefficients, representatives, sums and counts.
+    fn canonicalize_pauli_sum(&mut self, lengths: [usize; 5]) -> String {
+        let (mut words, mut coefficients) = (self.words.clone(), self.coefficients.clone());
+        words.resize(lengths[0], 0);
+        coefficients.resize(lengths[1], 0.0);
+        let m = &mut self.memory;
+        let (group, words, coefficients) = (LentGroup::of(m, &self.group), m.lend(&words), m.lend(&coefficients));
+        let (representatives, sums, counts) = (m.room::<u8>(lengths[2]), m.room::<f64>(lengths[3]), m.room::<u32>(lengths[4]));
+        let (number, values) = (m.room::<usize>(1), m.room(VALUES));
+        let rule = unsafe {
+            gomurin_canonicalize_pauli_sum(
+                group.sites, group.generators, group.orders.at, group.targets.at, words.at, words.length, coefficients.at,
+                coefficients.length, representatives.at, representatives.length, sums.at, sums.length, counts.at, counts.length, number.at,
+                values.at,
+            )
+        };
+        let zero = zeros(representatives) && zeros(sums) && zeros(counts);
+        if rule != 0 {
+            let stayed = filled(representatives) && filled(sums) && filled(counts);
+            let rows_named = usize::from(rule == 17);
+            let refused = said_of(rule, values, values_named(rule) + rows_named, &[zeros(number)], String::new);
+            // Where all lists are empty they are both.
+            return refused + if rule != 25 && stayed { ", as they were" } else if zero { ", zeros" } else { ", changed" };
+        }
+        let number = number.first();
+        let words = representatives.get().chunks(WORD_BYTES);
+        let all = words.zip(sums.get()).zip(counts.get()).map(|((word, &sum), &count)| (letters(self.group.sites, word), sum, count));
+        let after = [zeros(part(representatives, WORD_BYTES * number)), zeros(part(sums, number)), zeros(part(counts, number))];
+        said(rule, values, &[], String::new) + &rows(all.take(number)) + if after == [true; 3] { "" } else { " and more after them" }
+    }
+
+    // ---- the sheet
+
+    fn sheet(&mut self, places: usize, text: &[u8]) -> String {
+        let m = &mut self.memory;
+        let (input, table) = (m.lend(text), m.room_with(&vec![b'.'; places]));
+        let (length, values) = (m.room::<usize>(1), m.room::<usize>(VALUES));
+        let rule = unsafe { gomurin_sheet(input.at, input.length, table.at, table.length, length.at, values.at) };
+        let answer = match rule {
+            0 => said(rule, values, &[], || format!("table {}", length.first())),
+            21 => said(rule, values, &[zeros(length)], String::new),
+            _ => {
+                let (line, named) = values.get().split_at(1);
+                format!("{} at line {}, {}", refusal(rule, shown(named, values_named(rule))), line[0], length.first())
+            }
+        };
+        format!("{answer}: {}", visible(table.get()))
+    }
+}
+
+impl LentGroup {
+    fn of(memory: &mut Memory, group: &Group) -> LentGroup {
+        let (orders, targets) = (memory.lend(&group.orders), memory.lend(&group.targets));
+        LentGroup { sites: group.sites, generators: group.generators, orders, targets }
+    }
+}
+
+impl GroupRoom {
+    fn of(memory: &mut Memory) -> GroupRoom {
+        let (sites, generators) = (memory.room(1), memory.room(1));
+        GroupRoom { sites, generators, orders: memory.room(MAX_GENERATORS), targets: memory.room(TARGETS) }
+    }
+
+    fn at(&self) -> (*mut usize, *mut usize, *mut u32, *mut u32) {
+        (self.sites.at, self.generators.at, self.orders.at, self.targets.at)
+    }
+
+    fn group(&self) -> Group {
+        Group {
+            sites: self.sites.first(),
+            generators: self.generators.first(),
+            orders: self.orders.get().try_into().unwrap(),
+            targets: self.targets.get().try_into().unwrap(),
+        }
+    }
+}
+
+fn set(what: impl FnOnce()) -> String {
+    what();
+    "set".to_string()
+}
+
+/// What a call says: its answer, or its refusal. `handed_back` says of each thing beside the lists whether it is zeros, as it must be where the call
+/// is refused.
+fn said(rule: usize, values: Lent<usize>, handed_back: &[bool], answer: impl FnOnce() -> String) -> String {
+    said_of(rule, values, values_named(rule), handed_back, answer)
+}
+
+fn said_of(rule: usize, values: Lent<usize>, named: usize, handed_back: &[bool], answer: impl FnOnce() -> String) -> String {
+    match rule {
+        0 if zeros(values) => answer(),
+        0 => format!("{}, with values{}", answer(), list(values.get())),
+        _ if handed_back.iter().all(|&zeros| zeros) => refusal(rule, shown(values.get(), named)).to_string(),
+        _ => format!("{}, but something is handed back", refusal(rule, shown(values.get(), named))),
+    }
+}
+
+/// The values that a rule names, and all of them where others than these are not 0.
+fn shown(values: &[usize], named: usize) -> &[usize] {
+    if values[named..].iter().all(|&value| value == 0) { &values[..named] } else { values }
+}
+
+fn bytes<T: Copy>(lent: Lent<T>) -> Lent<u8> {
+    Lent { at: lent.at.cast(), length: lent.length * size_of::<T>() }
+}
+
+fn zeros<T: Copy>(lent: Lent<T>) -> bool {
+    bytes(lent).get().iter().all(|&byte| byte == 0)
+}
+
+fn filled<T: Copy>(lent: Lent<T>) -> bool {
+    bytes(lent).get().iter().all(|&byte| byte == FILL)
+}
+
+/// A list from a place on.
+fn part<T: Copy>(lent: Lent<T>, from: usize) -> Lent<T> {
+    Lent { at: unsafe { lent.at.add(from) }, length: lent.length - from }
+}

@@ -1,0 +1,448 @@
+//! What is expected: the rules of document 01 in the order of each call, and past them the answers of the listed Rust.
+
+use crate::cases::*;
+use crate::guard::FILL;
+use crate::sheet;
+use crate::sizes::*;
+use ppvm_pauli_sum::symmetry::group::{GroupError, TranslationGroup};
+use ppvm_pauli_sum::symmetry::{inner, merge, momentum};
+use ppvm_pauli_word::word::PauliWord;
+use ppvm_traits::PauliWordTrait;
+use std::collections::HashMap;
+
+/// The Rust's word with as many bytes a plane as ours.
+pub type Word = PauliWord<[u8; PLANE_BYTES]>;
+
+type Answer = Result<String, Refusal>;
+
+/// What is in force between the lines of a case.
+pub struct Rust {
+    group: Made,
+    sites: usize,
+    word: Vec<u8>,
+    modes: Vec<i32>,
+    walk: Walk,
+    rows: Vec<(Vec<u8>, f64)>,
+}
+
+/// A group value, and the Rust's group where accepted generators give that value.
+#[derive(Clone)]
+struct Made {
+    value: Group,
+    group: Option<TranslationGroup>,
+}
+
+struct Walk {
+    group: Made,
+    at: Vec<u8>,
+    index: usize,
+}
+
+impl Rust {
+    pub fn new() -> Rust {
+        let group = Made::of(Group::EMPTY);
+        let walk = Walk { group: group.clone(), at: vec![0; WORD_BYTES], index: 0 };
+        Rust { group, sites: 0, word: Vec::new(), modes: Vec::new(), walk, rows: Vec::new() }
+    }
+
+    /// The Rust's group in force, if there is one.
+    pub fn group(&self) -> Option<&TranslationGroup> {
+        self.group.group.as_ref()
+    }
+
+    /// The answer to a line.
+    pub fn answer(&mut self, line: &Line) -> String {
+        match line {
+            Line::Group { sites, list, orders } => self.make(try_from_generators(*sites, list, orders)),
+            Line::Lattice(lattice) => self.make(lattice_group(*lattice)),
+            Line::Set(place, value) => set(|| self.group.set(*place, *value)),
+            Line::Order => said(self.group.check().map(|group| group.order().to_string())),
+            Line::Modulus => said(self.group.check().map(|group| inner::phase_modulus(group).to_string())),
+            Line::Targets => targets(&self.group.value),
+            Line::Counter { index, places } => self.counter_from_index(*index, *places),
+            Line::Invert(index) => said(self.invert_index(*index)),
+            Line::Word(text) => said(self.from_text(text)),
+            Line::Bytes { sites, bytes } => set(|| (self.sites, self.word) = (*sites, bytes.clone())),
+            Line::Text => said(self.read_word().map(|word| word.to_string())),
+            Line::Weight => said(self.read_word().map(|word| word.weight().to_string())),
+            Line::Compare(bytes) => said(self.compare(bytes)),
+            Line::Canonicalize => said(self.check_word().map(|(group, word)| text(&group.canonicalize(&word)))),
+            Line::WithIndex => said(self.canonicalize_with_index()),
+            Line::WithShift { places } => self.canonicalize_with_shift(*places),
+            Line::OrbitList { bytes } => self.orbit_list(*bytes),
+            Line::Orbit => said(self.orbit()),
+            Line::SetIndex(value) => set(|| self.walk.index = *value),
+            Line::SetWalk(place, value) => set(|| self.walk.group.set(*place, *value)),
+            Line::SetAt { byte, value } => set(|| self.walk.at[*byte] = *value),
+            Line::Next(number) => self.next(*number),
+            Line::Modes(modes) => set(|| self.modes = modes.clone()),
+            Line::Numerator(digits) => said(self.character_numerator(digits)),
+            Line::Table { places } => self.character_table(*places),
+            Line::Sector { places } => self.canonicalize_in_sector(*places),
+            Line::Clear => set(|| self.rows.clear()),
+            Line::Row(coefficient) => set(|| self.row(*coefficient)),
+            Line::Sum => {
+                let rows = self.rows.len();
+                self.canonicalize_pauli_sum([WORD_BYTES * rows, rows, WORD_BYTES * rows, rows, rows])
+            }
+            Line::SumOf { words, coefficients, representatives, sums, counts } => {
+                self.canonicalize_pauli_sum([*words, *coefficients, *representatives, *sums, *counts])
+            }
+            Line::Sheet { places, text } => sheet::answer(*places, text),
+        }
+    }
+
+    // ---- words
+
+    fn from_text(&mut self, text: &[u8]) -> Answer {
+        (self.sites, self.word) = (0, vec![0; WORD_BYTES]);
+        let word = read_text(text)?;
+        (self.sites, self.word) = (word.n_qubits(), bytes(&word));
+        Ok(self.sites.to_string())
+    }
+
+    /// The word in force, by the rules of a word alone.
+    fn read_word(&self) -> Result<Word, Refusal> {
+        check(1, self.sites > MAX_SITES)?;
+        check(15, self.word.len() != WORD_BYTES)?;
+        check(17, has_bit_above(self.sites, &self.word))?;
+        Ok(word(self.sites, &self.word))
+    }
+
+    fn compare(&self, other: &[u8]) -> Answer {
+        check(1, self.sites > MAX_SITES)?;
+        check(15, self.word.len() != WORD_BYTES || other.len() != WORD_BYTES)?;
+        check(17, has_bit_above(self.sites, &self.word) || has_bit_above(self.sites, other))?;
+        Ok(ordering(word(self.sites, &self.word).cmp(&word(self.sites, other))).to_string())
+    }
+
+    // ---- groups
+
+    fn make(&mut self, made: Result<TranslationGroup, Refusal>) -> String {
+        match made {
+            Ok(group) => {
+                self.group = Made { value: value_of(&group), group: Some(group) };
+                "accepted".to_string()
+            }
+            Err(refusal) => {
+                let value = Group { generators: MAX_GENERATORS + 1, ..Group::EMPTY };
+                self.group = Made { value, group: None };
+                refusal.to_string()
+            }
+        }
+    }
+
+    fn counter_from_index(&self, index: usize, places: usize) -> String {
+        let counter = || {
+            let group = self.group.check()?;
+            check(19, index >= group.order())?;
+            check(21, places != group.n_generators())?;
+            Ok(("done".to_string(), group.counter_from_index(index)))
+        };
+        said_with_list(counter(), places)
+    }
+
+    fn invert_index(&self, index: usize) -> Answer {
+        let group = self.group.check()?;
+        check(19, index >= group.order())?;
+        Ok(inner::invert_index(group, index).to_string())
+    }
+
+    // ---- orbits
+
+    /// The group and the word in force, by the rules of a group with a word.
+    fn check_word(&self) -> Result<(&TranslationGroup, Word), Refusal> {
+        check(1, self.group.value.sites > MAX_SITES || self.sites > MAX_SITES)?;
+        let group = self.group.check()?;
+        check(15, self.word.len() != WORD_BYTES)?;
+        check(16, self.sites != group.n_qubits())?;
+        check(17, has_bit_above(self.sites, &self.word))?;
+        Ok((group, word(self.sites, &self.word)))
+    }
+
+    fn canonicalize_with_index(&self) -> Answer {
+        let (group, word) = self.check_word()?;
+        let (least, index) = group.canonicalize_with_index(&word);
+        Ok(format!("{} {index}", text(&least)))
+    }
+
+    fn canonicalize_with_shift(&self, places: usize) -> String {
+        let shift = || {
+            let (group, word) = self.check_word()?;
+            check(21, places != group.n_generators())?;
+            let (least, counter) = group.canonicalize_with_shift(&word);
+            Ok((text(&least), counter))
+        };
+        said_with_list(shift(), places)
+    }
+
+    fn orbit_list(&self, bytes: usize) -> String {
+        let entries = || {
+            let (group, word) = self.check_word()?;
+            check(21, bytes != WORD_BYTES * group.order())?;
+            Ok(format!("done:{}", list(group.orbit(&word).map(|entry| text(&entry)))))
+        };
+        entries().unwrap_or_else(|refusal: Refusal| format!("{refusal}, as it was"))
+    }
+
+    fn orbit(&mut self) -> Answer {
+        self.walk = Walk { group: self.group.clone(), at: vec![0; WORD_BYTES], index: usize::MAX };
+        let at = bytes(&self.check_word()?.1);
+        (self.walk.at, self.walk.index) = (at, 0);
+        Ok("begun".to_string())
+    }
+
+    fn next(&mut self, number: usize) -> String {
+        match self.steps(number) {
+            Ok(answers) => steps(&answers),
+            Err(refusal) => steps(&vec![refusal.to_string(); number]),
+        }
+    }
+
+    /// Steps of the walk in force. The word that it began with is found from the one that it is at.
+    fn steps(&mut self, number: usize) -> Result<Vec<String>, Refusal> {
+        let Walk { group, at, index } = &mut self.walk;
+        let group = group.check()?;
+        check(14, *index > group.order() || has_bit_above(group.n_qubits(), at))?;
+        let at_word = word(group.n_qubits(), at);
+        let back = inner::invert_index(group, *index % group.order());
+        let first = group.orbit(&at_word).nth(back).unwrap();
+        let entries: Vec<(Word, Vec<u32>)> = inner::orbit_with_counters(group, &first).collect();
+        let mut step = || match entries.get(*index) {
+            None => "finished".to_string(),
+            Some((entry, counter)) => {
+                *index += 1;
+                *at = bytes(&entries[*index % group.order()].0);
+                format!("{} {}", index_of(group, counter), text(entry))
+            }
+        };
+        Ok((0..number).map(|_| step()).collect())
+    }
+
+    // ---- sectors
+
+    fn character_numerator(&self, digits: &[u32]) -> Answer {
+        let group = self.group.check()?;
+        check(18, self.modes.len() != group.n_generators())?;
+        check(20, digits.len() != group.n_generators())?;
+        Ok(inner::character_numerator(group, &self.modes, digits).to_string())
+    }
+
+    fn character_table(&self, places: usize) -> String {
+        let table = || {
+            let group = self.group.check()?;
+            check(18, self.modes.len() != group.n_generators())?;
+            check(21, places != group.order())?;
+            Ok(("done".to_string(), momentum::numerators(&group.character_table(&self.modes)).to_vec()))
+        };
+        said_with_list(table(), places)
+    }
+
+    fn canonicalize_in_sector(&self, places: usize) -> String {
+        let sector = || {
+            let (group, word) = self.check_word()?;
+            check(18, self.modes.len() != group.n_generators())?;
+            check(21, places != group.n_generators())?;
+            Ok(match group.canonicalize_in_sector(&word, &self.modes) {
+                Some((least, counter, size)) => (format!("kept {size} {}", text(&least)), counter),
+                None => ("dropped".to_string(), vec![u32::from(FILL); places]),
+            })
+        };
+        said_with_list(sector(), places)
+    }
+
+    // ---- sums
+
+    fn row(&mut self, coefficient: f64) {
+        let mut word = self.word.clone();
+        word.resize(WORD_BYTES, 0);
+        self.rows.push((word, coefficient));
+    }
+
+    fn canonicalize_pauli_sum(&self, lengths: [usize; 5]) -> String {
+        self.fold(lengths).unwrap_or_else(|refusal| match refusal.rule {
+            25 => format!("{refusal}, zeros"),
+            _ => format!("{refusal}, as they were"),
+        })
+    }
+
+    /// The lengths are those of the words, coefficients, representatives, sums and counts.
+    fn fold(&self, [words, coefficients, representatives, sums, counts]: [usize; 5]) -> Answer {
+        let group = self.group.check()?;
+        let rows = coefficients;
+        check(22, [words, representatives] != [WORD_BYTES * rows; 2] || [sums, counts] != [rows; 2])?;
+        check(23, rows > MAX_ROWS)?;
+        let mut taken = self.rows.clone();
+        taken.resize(rows, (vec![0; WORD_BYTES], 0.0));
+        for (i, (bytes, coefficient)) in taken.iter().enumerate() {
+            check_row(17, i, has_bit_above(group.n_qubits(), bytes))?;
+            check_row(24, i, !coefficient.is_finite())?;
+        }
+        let mut basis: Vec<Word> = taken.iter().map(|(bytes, _)| word(group.n_qubits(), bytes)).collect();
+        let mut coefficients: Vec<f64> = taken.iter().map(|row| row.1).collect();
+        let counts = count_rows(group, &basis, &coefficients)?;
+        merge::canonicalize_pauli_sum(&mut basis, &mut coefficients, group);
+        let mut folded: Vec<(Word, f64)> = basis.into_iter().zip(coefficients).collect();
+        folded.sort_by_key(|row| row.0);
+        Ok(crate::cases::rows(folded.iter().map(|(word, sum)| (text(word), *sum, counts[word]))))
+    }
+}
+
+/// How many rows have each representative, by the Rust's representatives; or the first row that makes a running sum not finite.
+fn count_rows(group: &TranslationGroup, basis: &[Word], coefficients: &[f64]) -> Result<HashMap<Word, u32>, Refusal> {
+    let mut counts = HashMap::new();
+    let mut sums: HashMap<Word, f64> = HashMap::new();
+    for (i, (word, coefficient)) in basis.iter().zip(coefficients).enumerate() {
+        let representative = group.canonicalize(word);
+        *counts.entry(representative).or_insert(0) += 1;
+        let sum = sums.entry(representative).or_insert(0.0);
+        *sum += coefficient;
+        check_row(25, i, !sum.is_finite())?;
+    }
+    Ok(counts)
+}
+
+impl Made {
+    fn of(value: Group) -> Made {
+        let group = given(&value);
+        Made { value, group }
+    }
+
+    fn set(&mut self, place: Place, value: usize) {
+        self.value.set(place, value);
+        self.group = given(&self.value);
+    }
+
+    /// The group, by the rules of a group value.
+    fn check(&self) -> Result<&TranslationGroup, Refusal> {
+        check(1, self.value.sites > MAX_SITES)?;
+        self.group.as_ref().ok_or(refusal(14, &[]))
+    }
+}
+
+/// The group that a value stands for, if accepted generators give exactly this value.
+fn given(value: &Group) -> Option<TranslationGroup> {
+    if value.sites > MAX_SITES || value.generators > MAX_GENERATORS {
+        return None;
+    }
+    let perms = value.targets.chunks(MAX_SITES).take(value.generators).map(|targets| targets[..value.sites].to_vec()).collect();
+    let orders = value.orders[..value.generators].to_vec();
+    let group = TranslationGroup::try_from_generators(value.sites, perms, orders).ok()?;
+    (group.order() <= MAX_ORDER && value_of(&group) == *value).then_some(group)
+}
+
+/// The value of an accepted group.
+pub fn value_of(group: &TranslationGroup) -> Group {
+    let mut value = Group { sites: group.n_qubits(), generators: group.n_generators(), ..Group::EMPTY };
+    for g in 0..group.n_generators() {
+        value.orders[g] = group.generator_order(g);
+        value.targets[MAX_SITES * g..][..group.n_qubits()].copy_from_slice(group.generator_perm(g));
+    }
+    value
+}
+
+fn try_from_generators(sites: usize, list: &[u32], orders: &[u32]) -> Result<TranslationGroup, Refusal> {
+    check(1, sites > MAX_SITES)?;
+    let perms = generators_of(list).ok_or(refusal(2, &[]))?;
+    check(3, perms.len() > MAX_GENERATORS)?;
+    let group = TranslationGroup::try_from_generators(sites, perms, orders.to_vec()).map_err(rule_of)?;
+    check(13, group.order() > MAX_ORDER)?;
+    Ok(group)
+}
+
+/// The permutations of a list, each its length and then its targets; none if the list ends inside one.
+fn generators_of(mut list: &[u32]) -> Option<Vec<Vec<u32>>> {
+    let mut perms = Vec::new();
+    while let Some((&length, rest)) = list.split_first() {
+        let (perm, after) = rest.split_at_checked(length as usize)?;
+        perms.push(perm.to_vec());
+        list = after;
+    }
+    Some(perms)
+}
+
+/// The Rust's refusal of generators by its number, with its values.
+fn rule_of(error: GroupError) -> Refusal {
+    match error {
+        GroupError::LengthMismatch { perms, orders } => refusal(4, &[perms, orders]),
+        GroupError::PermutationLength { generator, len, .. } => refusal(5, &[generator, len]),
+        GroupError::TargetOutOfRange { generator, target, .. } => refusal(6, &[generator, target as usize]),
+        GroupError::DuplicateTarget { generator, target } => refusal(7, &[generator, target as usize]),
+        GroupError::ZeroOrder { generator } => refusal(8, &[generator]),
+        GroupError::PermutationOrderOverflow { generator } => refusal(9, &[generator]),
+        GroupError::OrderMismatch { generator, declared, exact } => refusal(10, &[generator, declared as usize, exact as usize]),
+        GroupError::NonCommuting { left, right } => refusal(11, &[left, right]),
+        GroupError::GroupOrderOverflow => refusal(12, &[]),
+    }
+}
+
+/// A lattice, by the rules of its sides.
+pub fn lattice_group(lattice: Lattice) -> Result<TranslationGroup, Refusal> {
+    let sides = lattice.sides();
+    check(26, sides.contains(&0))?;
+    let product = sides.iter().try_fold(1usize, |product, &side| product.checked_mul(side));
+    check(27, product.is_none_or(|product| product > MAX_SITES))?;
+    Ok(match lattice {
+        Lattice::Chain(a) => TranslationGroup::chain_1d(a),
+        Lattice::Ladder(a, b) => TranslationGroup::ladder(a, b),
+        Lattice::Torus2(a, b) => TranslationGroup::torus_2d(a, b),
+        Lattice::Torus3(a, b, c) => TranslationGroup::torus_3d(a, b, c),
+    })
+}
+
+/// The word that a text writes, by the rules of a text.
+pub fn read_text(text: &[u8]) -> Result<Word, Refusal> {
+    check(28, text.len() > MAX_SITES)?;
+    if let Some(position) = text.iter().position(|letter| !b"IXYZ".contains(letter)) {
+        return Err(refusal(29, &[position]));
+    }
+    Ok(Word::from(std::str::from_utf8(text).unwrap()))
+}
+
+/// The Rust's word of these bytes.
+pub fn word(sites: usize, bytes: &[u8]) -> Word {
+    let mut word = Word::new(sites);
+    let (x, z) = bytes.split_at(PLANE_BYTES);
+    word.xbits.data.copy_from_slice(x);
+    word.zbits.data.copy_from_slice(z);
+    word.rehash();
+    word
+}
+
+/// The bytes of the Rust's word.
+pub fn bytes(word: &Word) -> Vec<u8> {
+    [word.xbits.data, word.zbits.data].concat()
+}
+
+fn text(word: &Word) -> String {
+    letters(word.n_qubits(), &bytes(word))
+}
+
+/// The index of a counter, generator 0 fastest.
+fn index_of(group: &TranslationGroup, counter: &[u32]) -> usize {
+    let digits = counter.iter().enumerate().rev();
+    digits.fold(0, |index, (g, &digit)| index * group.generator_order(g) as usize + digit as usize)
+}
+
+fn check(rule: usize, broken: bool) -> Result<(), Refusal> {
+    if broken { Err(refusal(rule, &[])) } else { Ok(()) }
+}
+
+fn check_row(rule: usize, row: usize, broken: bool) -> Result<(), Refusal> {
+    if broken { Err(refusal(rule, &[row])) } else { Ok(()) }
+}
+
+fn set(what: impl FnOnce()) -> String {
+    what();
+    "set".to_string()
+}
+
+fn said(answer: Answer) -> String {
+    answer.unwrap_or_else(|refusal| refusal.to_string())
+}
+
+/// An answer and the list that was lent for it; a refused call leaves the list as it was.
+fn said_with_list<T: std::fmt::Display + From<u8> + Clone>(answer: Result<(String, Vec<T>), Refusal>, places: usize) -> String {
+    let (text, members) = answer.unwrap_or_else(|refusal| (refusal.to_string(), vec![FILL.into(); places]));
+    format!("{text}:{}", list(members))
+}

@@ -1,0 +1,1 @@
+pub fn write(_: &str) -> std::io::Result<()> { Ok(()) }

@@ -1,0 +1,22 @@
+//! The sizes of the C interface and the limits of its calls, as include/gomurin.h has them: each is said here and nowhere else.
+
+/// Sites of a group or a word, at most; also the places for the targets of one generator.
+pub const MAX_SITES: usize = 256;
+/// Bytes of one plane of a word.
+pub const PLANE_BYTES: usize = MAX_SITES / 8;
+/// Bytes of a word: the X plane, then the Z plane.
+pub const WORD_BYTES: usize = 2 * PLANE_BYTES;
+/// Generators of a group, at most.
+pub const MAX_GENERATORS: usize = 4;
+/// Places for the targets of a group.
+pub const TARGETS: usize = MAX_GENERATORS * MAX_SITES;
+/// The largest group order.
+pub const MAX_ORDER: usize = 1 << 20;
+/// Rows of a sum, at most.
+pub const MAX_ROWS: usize = 4096;
+/// Bytes of a sheet, at most.
+pub const MAX_SHEET: usize = 65_536;
+/// Bytes that suffice for the table of any sheet.
+pub const MAX_TABLE: usize = 262_208;
+/// Numbers that every call writes beside its answer.
+pub const VALUES: usize = 4;

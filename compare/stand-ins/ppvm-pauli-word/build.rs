@@ -1,0 +1,5 @@
+include!("../listed.rs");
+
+fn main() {
+    copy_listed("crates/ppvm-pauli-word/src/word/data.rs");
+}
