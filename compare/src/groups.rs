@@ -21,16 +21,20 @@ impl Bounds {
     pub fn common(random: &mut Random) -> Bounds {
         let order = match random.below(1000) {
             0 => 16_384,
-            1..=9 => 2_048,
-            10..=99 => 256,
-            _ => 48,
+            1..=29 => 2_048,
+            30..=399 => 256,
+            _ => 64,
         };
         Bounds { sites: MAX_SITES, order }
     }
 
     /// Few sites and few elements, for a list that is replayed.
     pub fn small(random: &mut Random) -> Bounds {
-        if random.once_in(50) { Bounds { sites: MAX_SITES, order: 256 } } else { Bounds { sites: 24, order: 24 } }
+        match random.below(20) {
+            0 => Bounds { sites: MAX_SITES, order: 8 },
+            1 => Bounds { sites: 16, order: 512 },
+            _ => Bounds { sites: 20, order: 20 },
+        }
     }
 }
 
@@ -66,9 +70,12 @@ pub fn group(random: &mut Random, bounds: Bounds) -> Chosen {
     match random.below(8) {
         0..=1 => {
             let lattice = lattice(random, bounds);
-            Chosen { line: Line::Lattice(lattice), group: lattice_group(lattice).unwrap_or_else(|_| unreachable!()) }
+            Chosen { line: Line::Lattice(lattice), group: accepted(lattice) }
         }
-        2 => own_numbering(random, bounds).chosen(),
+        2 => {
+            let lattice = lattice(random, bounds);
+            renumbered_shifts(random, lattice).chosen()
+        }
         _ => commuting(random, bounds).chosen(),
     }
 }
@@ -84,9 +91,15 @@ pub fn large_group(random: &mut Random, above: usize) -> Chosen {
     }
 }
 
+/// The group of a lattice that breaks no rule.
+pub fn accepted(lattice: Lattice) -> TranslationGroup {
+    lattice_group(lattice).unwrap_or_else(|refusal| panic!("{lattice}: {refusal}"))
+}
+
 /// A lattice; its order is at most its sites.
 pub fn lattice(random: &mut Random, bounds: Bounds) -> Lattice {
-    let sites = 1 + random.size(bounds.sites.min(bounds.order) - 1);
+    let most = bounds.sites.min(bounds.order);
+    let sites = if random.once_in(2) { random.within(1..=most) } else { 1 + random.size(most - 1) };
     let (a, b, c) = sides(random, sites);
     match random.below(4) {
         0 => Lattice::Chain(sites),
@@ -104,8 +117,8 @@ fn sides(random: &mut Random, sites: usize) -> (usize, usize, usize) {
 }
 
 /// The shifts of a lattice, its sites numbered otherwise.
-fn own_numbering(random: &mut Random, bounds: Bounds) -> Generators {
-    let group = lattice_group(lattice(random, bounds)).unwrap_or_else(|_| unreachable!());
+fn renumbered_shifts(random: &mut Random, lattice: Lattice) -> Generators {
+    let group = accepted(lattice);
     let labels = labels(random, group.n_qubits());
     let shifts = 0..group.n_generators();
     Generators {
@@ -113,6 +126,18 @@ fn own_numbering(random: &mut Random, bounds: Bounds) -> Generators {
         permutations: shifts.clone().map(|g| relabelled(group.generator_perm(g), &labels)).collect(),
         orders: shifts.map(|g| group.generator_order(g)).collect(),
     }
+}
+
+/// A lattice with its sites numbered at random.
+pub fn renumbered(random: &mut Random, lattice: Lattice) -> TranslationGroup {
+    renumbered_shifts(random, lattice).chosen().group
+}
+
+/// So many rings of so many sites, side by side, each turning by itself.
+pub fn rings(rings: usize, length: usize) -> TranslationGroup {
+    let sites = rings * length;
+    let turn = |ring: usize| (0..sites).map(|q| shifted(q, ring * length, length, 1, length) as u32).collect();
+    TranslationGroup::from_generators(sites, (0..rings).map(turn).collect(), vec![length as u32; rings])
 }
 
 /// None to four generators: products of powers of shifts that commute, powers of one another, equal ones, identities.
@@ -123,16 +148,14 @@ fn commuting(random: &mut Random, bounds: Bounds) -> Generators {
     let mut orders = Vec::new();
     let mut room = bounds.order as u64;
     for _ in 0..random.below(MAX_GENERATORS + 1) {
-        let mut permutation = match random.below(10) {
+        let permutation = match random.below(10) {
             0 => identity(sites),
             1 if !permutations.is_empty() => random.pick(&permutations),
-            2 if !permutations.is_empty() => power(&random.pick(&permutations), random.below(8)),
+            2 if !permutations.is_empty() => power(&random.pick(&permutations), random.bits() % 8),
             _ => product(random, &shifts, sites),
         };
-        while exact_order(&permutation) > room {
-            permutation = power(&permutation, least_factor(exact_order(&permutation)));
-        }
-        let order = exact_order(&permutation);
+        let bound = if random.once_in(2) { room } else { room.isqrt() };
+        let (permutation, order) = power_within(random, &permutation, bound);
         room /= order;
         orders.push(order as u32);
         permutations.push(permutation);
@@ -144,11 +167,37 @@ fn commuting(random: &mut Random, bounds: Bounds) -> Generators {
     Generators { sites, permutations, orders }
 }
 
+/// A power of a permutation whose order is at most a bound, and that order.
+fn power_within(random: &mut Random, permutation: &[u32], bound: u64) -> (Permutation, u64) {
+    let exact = exact_order(permutation);
+    if exact <= bound {
+        return (permutation.to_vec(), exact);
+    }
+    let mut factors = prime_factors(exact);
+    random.shuffle(&mut factors);
+    let order = factors.iter().fold(1, |order, factor| if order * factor <= bound { order * factor } else { order });
+    (power(permutation, exact / order), order)
+}
+
+fn prime_factors(mut number: u64) -> Vec<u64> {
+    let mut factors = Vec::new();
+    for factor in 2.. {
+        while number.is_multiple_of(factor) {
+            factors.push(factor);
+            number /= factor;
+        }
+        if number == 1 {
+            return factors;
+        }
+    }
+    unreachable!()
+}
+
 /// A number of sites: any, few, or one beside the end of a byte or of a machine word.
 pub fn site_count(random: &mut Random, bound: usize) -> usize {
     match random.below(4) {
-        0 => random.within(0..=bound),
-        1 => random.pick(&[0, 1, 2, 7, 8, 9, 31, 32, 33, 63, 64, 65, 127, 128, 129, 191, 192, 255, 256]).min(bound),
+        0..=1 => random.within(0..=bound),
+        2 => random.pick(&[0, 1, 2, 7, 8, 9, 31, 32, 33, 63, 64, 65, 127, 128, 129, 191, 192, 255, 256]).min(bound),
         _ => random.size(bound),
     }
 }
@@ -158,11 +207,9 @@ fn shifts(random: &mut Random, sites: usize) -> Vec<Permutation> {
     let mut shifts = Vec::new();
     let mut start = 0;
     while start < sites && shifts.len() < 24 {
-        let (a, b, c) = {
-            let length = if random.once_in(4) { sites - start } else { 1 + random.size(sites - start - 1) };
-            sides(random, length)
-        };
-        for (stride, side) in [(1, a), (a, b), (a * b, c)] {
+        let length = if random.once_in(4) { sites - start } else { 1 + random.size(sites - start - 1) };
+        let (a, b, c) = sides(random, length);
+        for (stride, side) in [(1, a), (a, b), (a * b, c)].into_iter().filter(|&(_, side)| side > 1) {
             shifts.push((0..sites).map(|q| shifted(q, start, a * b * c, stride, side) as u32).collect());
         }
         start += a * b * c;
@@ -183,7 +230,7 @@ fn product(random: &mut Random, shifts: &[Permutation], sites: usize) -> Permuta
     let mut product = identity(sites);
     for _ in 0..random.within(1..=4) {
         if !shifts.is_empty() {
-            let exponent = if random.once_in(2) { 1 } else { random.below(12) };
+            let exponent = if random.once_in(2) { 1 } else { random.bits() % 12 };
             product = after(&power(&random.pick(shifts), exponent), &product);
         }
     }
@@ -199,8 +246,16 @@ pub fn after(second: &[u32], first: &[u32]) -> Permutation {
     first.iter().map(|&q| second[q as usize]).collect()
 }
 
-pub fn power(permutation: &[u32], exponent: usize) -> Permutation {
-    (0..exponent).fold(identity(permutation.len()), |product, _| after(permutation, &product))
+pub fn power(permutation: &[u32], exponent: u64) -> Permutation {
+    let mut result = identity(permutation.len());
+    let mut square = permutation.to_vec();
+    for place in 0..u64::BITS - exponent.leading_zeros() {
+        if exponent >> place & 1 == 1 {
+            result = after(&square, &result);
+        }
+        square = after(&square, &square);
+    }
+    result
 }
 
 fn labels(random: &mut Random, sites: usize) -> Permutation {
@@ -240,14 +295,10 @@ fn gcd(a: u64, b: u64) -> u64 {
     if b == 0 { a } else { gcd(b, a % b) }
 }
 
-fn least_factor(number: u64) -> usize {
-    (2..).find(|&factor| number.is_multiple_of(factor)).unwrap() as usize
-}
-
 /// The permutation that the element of an index is.
 pub fn element(group: &TranslationGroup, index: usize) -> Permutation {
     let counter = group.counter_from_index(index);
-    let powers = counter.iter().enumerate().map(|(g, &count)| power(group.generator_perm(g), count as usize));
+    let powers = counter.iter().enumerate().map(|(g, &count)| power(group.generator_perm(g), u64::from(count)));
     powers.fold(identity(group.n_qubits()), |product, next| after(&next, &product))
 }
 
@@ -287,7 +338,7 @@ fn long_cycles(random: &mut Random) -> Generators {
             permutation.extend((0..length).map(|q| (start + (q + 1) % length) as u32));
         }
     }
-    let permutations: Vec<Permutation> = (0..random.within(1..=4)).map(|_| power(&permutation, random.within(1..=3))).collect();
+    let permutations: Vec<Permutation> = (0..random.within(1..=4)).map(|_| power(&permutation, 1 + random.bits() % 3)).collect();
     let orders = permutations.iter().map(|permutation| exact_order(permutation) as u32).collect();
     Generators { sites: permutation.len(), permutations, orders }
 }

@@ -25,7 +25,7 @@ use std::process::ExitCode;
 const USAGE: &str = "usage: compare/run [--seed S] [--count N] [--compare | --bench | --sample DIR | --alone PART NUMBER]";
 
 /// Random cases of a default run; the parts share them.
-const COUNT: usize = 100_000;
+const COUNT: usize = 200_000;
 const SEED: u64 = 20_008;
 
 enum Task {

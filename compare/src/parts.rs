@@ -42,14 +42,14 @@ fn parts(seed: u64, count: usize) -> Vec<Part> {
     };
     let counted = exhaustive::counted();
     vec![
-        random("words", 1_500, |_| Bounds::ALL, words::case),
+        random("words", 1_000, |_| Bounds::ALL, words::case),
         random("groups", 1_500, |_| Bounds::ALL, groups::case),
-        random("lists", 1_500, |_| Bounds::ALL, groups::faulty_case),
+        random("lists", 2_000, |_| Bounds::ALL, groups::faulty_case),
         random("orbits", 2_500, Bounds::common, orbits::case),
         random("sectors", 2_000, Bounds::common, sectors::case),
         random("sums", 500, Bounds::common, sums::case),
-        random("forged", 500, |_| Bounds::ALL, guarded::forged_case),
-        random("large", 4, |_| Bounds::ALL, orbits::large_case),
+        random("forged", 500, Bounds::common, guarded::forged_case),
+        random("large", 2, |_| Bounds::ALL, orbits::large_case),
         listed("exhaustive", exhaustive::cases()),
         Part { name: "pairs", count: counted.len(), check: Box::new(move |i| exhaustive::count_pairs(counted[i].0, &counted[i].1)) },
         listed("guarded", guarded::cases()),

@@ -1,1 +1,61 @@
-pub fn write(_: &str) -> std::io::Result<()> { Ok(()) }
+//! A sample of the Rust's answers as a list: lines of cases, and beside them what the listed Rust says to each, never what we say. A program of the gate
+//! replays it.
+
+use crate::cases::{Case, Line};
+use crate::groups::{self, Bounds};
+use crate::random::Random;
+use crate::rust::Rust;
+use crate::{orbits, sectors, sums, words};
+use std::fs;
+use std::io;
+use std::path::Path;
+
+/// The same list each time.
+const SEED: u64 = 1;
+
+type Make = fn(&mut Random, Bounds) -> Case;
+
+/// How many cases there are of each kind.
+const KINDS: [(&str, usize, Make); 6] = [
+    ("words", 600, words::case),
+    ("groups", 600, groups::case),
+    ("lists", 1000, groups::faulty_case),
+    ("orbits", 700, orbits::case),
+    ("sectors", 700, sectors::case),
+    ("sums", 300, sums::case),
+];
+
+/// Writes the lines to `stdin` and the Rust's answers to `stdout` in a folder.
+pub fn write(folder: &str) -> io::Result<()> {
+    let (mut stdin, mut stdout) = (String::new(), String::new());
+    for (name, count, make) in KINDS {
+        for number in 0..count {
+            let mut random = Random::of(SEED, name, number);
+            let bounds = Bounds::small(&mut random);
+            for (line, answer) in answered(&make(&mut random, bounds)) {
+                stdin += &format!("{line}\n");
+                stdout += &format!("{answer}\n");
+            }
+        }
+    }
+    fs::create_dir_all(folder)?;
+    fs::write(Path::new(folder).join("stdin"), stdin)?;
+    fs::write(Path::new(folder).join("stdout"), stdout)
+}
+
+/// The lines of a case that the Rust itself answers. It has no rules 1, 2, 3 and 13, and nothing to say after a refused group.
+fn answered(case: &Case) -> Vec<(&Line, String)> {
+    let mut rust = Rust::new();
+    let mut answered = Vec::new();
+    for line in case {
+        let answer = rust.answer(line);
+        let added = ["refused 1", "refused 2", "refused 3", "refused 13"].contains(&answer.as_str());
+        if !added {
+            answered.push((line, answer));
+        }
+        if rust.group().is_none() {
+            break;
+        }
+    }
+    answered
+}
