@@ -115,8 +115,9 @@ fn benched_rows(random: &mut Random, group: &TranslationGroup) -> Vec<(&'static 
     vec![("rising", rising), ("falling", falling), ("random", shuffled), ("all equal", equal)]
 }
 
-/// Times both sides in turn. Each takes a number of calls and how many went before, and says how long they took.
-fn in_turn(ours: impl Fn(usize, usize) -> Duration, rust: impl Fn(usize, usize) -> Duration) -> (Times, Times) {
+/// Times both sides in turn. Each takes a number of calls and how many went before, and says how long they took; a time is given for one of `parts`
+/// parts of a call.
+fn in_turn(parts: usize, ours: impl Fn(usize, usize) -> Duration, rust: impl Fn(usize, usize) -> Duration) -> (Times, Times) {
     let enough = |side: &dyn Fn(usize, usize) -> Duration| {
         let mut calls = 1;
         while side(calls, 0) < LEAST_ROUND {
@@ -128,9 +129,9 @@ fn in_turn(ours: impl Fn(usize, usize) -> Duration, rust: impl Fn(usize, usize) 
     let (of_ours, of_rust) = (enough(&ours), enough(&rust));
     let mut rounds: Vec<(f64, f64)> = Vec::new();
     while rounds.len() < LEAST_ROUNDS || start.elapsed() < BUDGET {
-        let per_call = |time: Duration, calls: usize| time.as_nanos() as f64 / calls as f64;
+        let per_part = |time: Duration, calls: usize| time.as_nanos() as f64 / (calls * parts) as f64;
         let number = rounds.len();
-        rounds.push((per_call(ours(of_ours, number * of_ours), of_ours), per_call(rust(of_rust, number * of_rust), of_rust)));
+        rounds.push((per_part(ours(of_ours, number * of_ours), of_ours), per_part(rust(of_rust, number * of_rust), of_rust)));
     }
     (times(rounds.iter().map(|round| round.0)), times(rounds.iter().map(|round| round.1)))
 }
@@ -156,6 +157,7 @@ fn with_index(group: &TranslationGroup, words: &[Word]) -> (Times, Times) {
     let value = value_of(group);
     let ours: Vec<Vec<u8>> = words.iter().map(bytes).collect();
     in_turn(
+        1,
         round(&ours, |word| {
             black_box(ours_with_index(&value, word));
         }),
@@ -170,6 +172,7 @@ fn in_sector(group: &TranslationGroup, words: &[Word]) -> (Times, Times) {
     let modes = vec![0; group.n_generators()];
     let ours: Vec<Vec<u8>> = words.iter().map(bytes).collect();
     in_turn(
+        1,
         round(&ours, |word| {
             black_box(ours_in_sector(&value, word, &modes));
         }),
@@ -194,8 +197,7 @@ fn sum(group: &TranslationGroup, rows: &[Word]) -> (Times, Times) {
         let (mut basis, mut coefficients) = (rows.to_vec(), coefficients.clone());
         timed(|| merge::canonicalize_pauli_sum(&mut basis, &mut coefficients, group))
     };
-    let of_rows = |fold: &dyn Fn() -> Duration, calls: usize| (0..calls).map(|_| fold()).sum::<Duration>() / rows.len() as u32;
-    in_turn(|calls, _| of_rows(&fold_ours, calls), |calls, _| of_rows(&fold_rust, calls))
+    in_turn(rows.len(), |calls, _| (0..calls).map(|_| fold_ours()).sum(), |calls, _| (0..calls).map(|_| fold_rust()).sum())
 }
 
 fn ours_with_index(group: &Group, word: &[u8]) -> ([u8; WORD_BYTES], usize) {

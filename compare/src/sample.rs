@@ -5,6 +5,7 @@ use crate::cases::{Case, Line};
 use crate::groups::{self, Bounds};
 use crate::random::Random;
 use crate::rust::Rust;
+use crate::sizes::*;
 use crate::{orbits, sectors, sums, words};
 use std::fs;
 use std::io;
@@ -15,23 +16,27 @@ const SEED: u64 = 1;
 
 type Make = fn(&mut Random, Bounds) -> Case;
 
-/// How many cases there are of each kind.
-const KINDS: [(&str, usize, Make); 6] = [
-    ("words", 600, words::case),
-    ("groups", 600, groups::case),
-    ("lists", 1000, groups::faulty_case),
-    ("orbits", 700, orbits::case),
-    ("sectors", 700, sectors::case),
-    ("sums", 300, sums::case),
+/// How many cases there are of each kind, and how large their groups are.
+const KINDS: [(&str, usize, fn(&mut Random) -> Bounds, Make); 8] = [
+    ("words", 500, Bounds::small, words::case),
+    ("groups", 500, Bounds::small, groups::case),
+    ("lists", 1500, Bounds::small, groups::faulty_case),
+    ("orbits", 700, Bounds::small, orbits::case),
+    ("sectors", 700, Bounds::small, sectors::case),
+    ("sums", 300, Bounds::small, sums::case),
+    ("larger orbits", 10, |_| LARGER, orbits::case),
+    ("larger sectors", 10, |_| LARGER, sectors::case),
 ];
+
+const LARGER: Bounds = Bounds { sites: MAX_SITES, order: 8192 };
 
 /// Writes the lines to `stdin` and the Rust's answers to `stdout` in a folder.
 pub fn write(folder: &str) -> io::Result<()> {
     let (mut stdin, mut stdout) = (String::new(), String::new());
-    for (name, count, make) in KINDS {
+    for (name, count, bounds, make) in KINDS {
         for number in 0..count {
             let mut random = Random::of(SEED, name, number);
-            let bounds = Bounds::small(&mut random);
+            let bounds = bounds(&mut random);
             for (line, answer) in answered(&make(&mut random, bounds)) {
                 stdin += &format!("{line}\n");
                 stdout += &format!("{answer}\n");
