@@ -47,7 +47,13 @@ pub fn lines() {
         let (ours, rust) = (&m.ours, &m.rust);
         println!(
             "bench {}, {}: ours {:.0} ns (median {:.0}), the Rust {:.0} ns (median {:.0}), ratio {:.2}",
-            m.name, m.call, ours.least, ours.median, rust.least, rust.median, m.ratio()
+            m.name,
+            m.call,
+            ours.least,
+            ours.median,
+            rust.least,
+            rust.median,
+            m.ratio()
         );
     });
 }
@@ -59,7 +65,15 @@ pub fn table() {
     measure_all(|m| {
         println!(
             "| {} | {} | {} | `{}` | {:.0} ns | {:.0} ns | {:.0} ns | {:.0} ns | {:.2} |",
-            m.name, m.sites, m.order, m.call, m.ours.least, m.ours.median, m.rust.least, m.rust.median, m.ratio()
+            m.name,
+            m.sites,
+            m.order,
+            m.call,
+            m.ours.least,
+            m.ours.median,
+            m.rust.least,
+            m.rust.median,
+            m.ratio()
         );
     });
 }
@@ -93,8 +107,8 @@ fn benched_groups(random: &mut Random) -> Vec<(String, TranslationGroup)> {
     ];
     let lattice = |(name, lattice): (&str, Lattice)| (name.to_string(), groups::accepted(lattice));
     let mut all: Vec<(String, TranslationGroup)> = lattices.map(lattice).to_vec();
-    all.push(("four rings of 32".to_string(), groups::rings(4, 32)));
-    all.push(("torus 16 x 16, sites renumbered".to_string(), groups::renumbered(random, Lattice::Torus2(16, 16))));
+    all.push(("four rings of 32".to_string(), groups::rings(4, 32).chosen().group));
+    all.push(("torus 16 x 16, sites renumbered".to_string(), groups::renumbered(random, Lattice::Torus2(16, 16)).chosen().group));
     all
 }
 
@@ -200,14 +214,22 @@ fn sum(group: &TranslationGroup, rows: &[Word]) -> (Times, Times) {
     in_turn(rows.len(), |calls, _| (0..calls).map(|_| fold_ours()).sum(), |calls, _| (0..calls).map(|_| fold_rust()).sum())
 }
 
+fn parts(group: &Group) -> GroupParts {
+    GroupParts { sites: group.sites, generators: group.generators, orders: group.orders.as_ptr(), targets: group.targets.as_ptr() }
+}
+
 fn ours_with_index(group: &Group, word: &[u8]) -> ([u8; WORD_BYTES], usize) {
     let (mut least, mut index, mut values) = ([0; WORD_BYTES], 0, [0; VALUES]);
-    let rule = unsafe {
-        gomurin_canonicalize_with_index(
-            group.sites, group.generators, group.orders.as_ptr(), group.targets.as_ptr(), group.sites, word.as_ptr(), word.len(),
-            least.as_mut_ptr(), &mut index, values.as_mut_ptr(),
-        )
-    };
+    let rule = call_of_group!(
+        gomurin_canonicalize_with_index,
+        parts(group),
+        group.sites,
+        word.as_ptr(),
+        word.len(),
+        least.as_mut_ptr(),
+        &mut index,
+        values.as_mut_ptr()
+    );
     assert_eq!(rule, 0);
     (least, index)
 }
@@ -215,33 +237,43 @@ fn ours_with_index(group: &Group, word: &[u8]) -> ([u8; WORD_BYTES], usize) {
 fn ours_in_sector(group: &Group, word: &[u8], modes: &[i32]) -> ([u8; WORD_BYTES], [u32; MAX_GENERATORS], usize, u8) {
     let (mut least, mut counter, mut size, mut kept) = ([0; WORD_BYTES], [0; MAX_GENERATORS], 0, 0);
     let mut values = [0; VALUES];
-    let rule = unsafe {
-        gomurin_canonicalize_in_sector(
-            group.sites, group.generators, group.orders.as_ptr(), group.targets.as_ptr(), group.sites, word.as_ptr(), word.len(),
-            modes.as_ptr(), modes.len(), least.as_mut_ptr(), counter.as_mut_ptr(), group.generators, &mut size, &mut kept,
-            values.as_mut_ptr(),
-        )
-    };
+    let rule = call_of_group!(
+        gomurin_canonicalize_in_sector,
+        parts(group),
+        group.sites,
+        word.as_ptr(),
+        word.len(),
+        modes.as_ptr(),
+        modes.len(),
+        least.as_mut_ptr(),
+        counter.as_mut_ptr(),
+        group.generators,
+        &mut size,
+        &mut kept,
+        values.as_mut_ptr()
+    );
     assert_eq!(rule, 0);
     (least, counter, size, kept)
 }
 
-fn ours_sum(
-    group: &Group,
-    words: &[u8],
-    coefficients: &[f64],
-    representatives: &mut [u8],
-    sums: &mut [f64],
-    counts: &mut [u32],
-) -> usize {
+fn ours_sum(group: &Group, words: &[u8], coefficients: &[f64], representatives: &mut [u8], sums: &mut [f64], counts: &mut [u32]) -> usize {
     let (mut rows, mut values) = (0, [0; VALUES]);
-    let rule = unsafe {
-        gomurin_canonicalize_pauli_sum(
-            group.sites, group.generators, group.orders.as_ptr(), group.targets.as_ptr(), words.as_ptr(), words.len(),
-            coefficients.as_ptr(), coefficients.len(), representatives.as_mut_ptr(), representatives.len(), sums.as_mut_ptr(),
-            sums.len(), counts.as_mut_ptr(), counts.len(), &mut rows, values.as_mut_ptr(),
-        )
-    };
+    let rule = call_of_group!(
+        gomurin_canonicalize_pauli_sum,
+        parts(group),
+        words.as_ptr(),
+        words.len(),
+        coefficients.as_ptr(),
+        coefficients.len(),
+        representatives.as_mut_ptr(),
+        representatives.len(),
+        sums.as_mut_ptr(),
+        sums.len(),
+        counts.as_mut_ptr(),
+        counts.len(),
+        &mut rows,
+        values.as_mut_ptr()
+    );
     assert_eq!(rule, 0);
     rows
 }

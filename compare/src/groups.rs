@@ -44,22 +44,22 @@ pub struct Chosen {
     pub group: TranslationGroup,
 }
 
-type Permutation = Vec<u32>;
+pub type Permutation = Vec<u32>;
 
 /// Permutations of the sites and their declared orders: what a generator list says.
-struct Generators {
-    sites: usize,
-    permutations: Vec<Permutation>,
-    orders: Vec<u32>,
+pub struct Generators {
+    pub sites: usize,
+    pub permutations: Vec<Permutation>,
+    pub orders: Vec<u32>,
 }
 
 impl Generators {
-    fn line(&self) -> Line {
+    pub fn line(&self) -> Line {
         let list = self.permutations.iter().flat_map(|perm| [&[perm.len() as u32], &perm[..]].concat()).collect();
         Line::Group { sites: self.sites, list, orders: self.orders.clone() }
     }
 
-    fn chosen(self) -> Chosen {
+    pub fn chosen(self) -> Chosen {
         let line = self.line();
         Chosen { line, group: TranslationGroup::from_generators(self.sites, self.permutations, self.orders) }
     }
@@ -74,21 +74,20 @@ pub fn group(random: &mut Random, bounds: Bounds) -> Chosen {
         }
         2 => {
             let lattice = lattice(random, bounds);
-            renumbered_shifts(random, lattice).chosen()
+            renumbered(random, lattice).chosen()
         }
         _ => commuting(random, bounds).chosen(),
     }
 }
 
-/// A group of more than so many elements.
+/// A group of more than so many elements, seldom of as many as there may be.
 pub fn large_group(random: &mut Random, above: usize) -> Chosen {
-    loop {
-        let order = if random.once_in(12) { MAX_ORDER } else { 2 * above };
-        let chosen = commuting(random, Bounds { sites: MAX_SITES, order }).chosen();
-        if chosen.group.order() > above {
-            return chosen;
-        }
+    if random.once_in(16) {
+        return rings(4, 32).chosen();
     }
+    let order = if random.once_in(12) { MAX_ORDER } else { 2 * above };
+    let mut groups = std::iter::repeat_with(|| commuting(random, Bounds { sites: MAX_SITES, order }).chosen());
+    groups.find(|chosen| chosen.group.order() > above).unwrap()
 }
 
 /// The group of a lattice that breaks no rule.
@@ -117,7 +116,7 @@ fn sides(random: &mut Random, sites: usize) -> (usize, usize, usize) {
 }
 
 /// The shifts of a lattice, its sites numbered otherwise.
-fn renumbered_shifts(random: &mut Random, lattice: Lattice) -> Generators {
+pub fn renumbered(random: &mut Random, lattice: Lattice) -> Generators {
     let group = accepted(lattice);
     let labels = labels(random, group.n_qubits());
     let shifts = 0..group.n_generators();
@@ -128,16 +127,11 @@ fn renumbered_shifts(random: &mut Random, lattice: Lattice) -> Generators {
     }
 }
 
-/// A lattice with its sites numbered at random.
-pub fn renumbered(random: &mut Random, lattice: Lattice) -> TranslationGroup {
-    renumbered_shifts(random, lattice).chosen().group
-}
-
 /// So many rings of so many sites, side by side, each turning by itself.
-pub fn rings(rings: usize, length: usize) -> TranslationGroup {
+pub fn rings(rings: usize, length: usize) -> Generators {
     let sites = rings * length;
     let turn = |ring: usize| (0..sites).map(|q| shifted(q, ring * length, length, 1, length) as u32).collect();
-    TranslationGroup::from_generators(sites, (0..rings).map(turn).collect(), vec![length as u32; rings])
+    Generators { sites, permutations: (0..rings).map(turn).collect(), orders: vec![length as u32; rings] }
 }
 
 /// None to four generators: products of powers of shifts that commute, powers of one another, equal ones, identities.
@@ -237,6 +231,16 @@ fn product(random: &mut Random, shifts: &[Permutation], sites: usize) -> Permuta
     product
 }
 
+/// Cycles of these lengths, one after the other.
+pub fn cycles(lengths: &[usize]) -> Permutation {
+    let mut permutation = Vec::new();
+    for &length in lengths {
+        let start = permutation.len();
+        permutation.extend((0..length).map(|q| (start + (q + 1) % length) as u32));
+    }
+    permutation
+}
+
 pub fn identity(sites: usize) -> Permutation {
     (0..sites as u32).collect()
 }
@@ -331,13 +335,10 @@ fn long_cycles(random: &mut Random) -> Generators {
     let mut lengths = vec![2, 3, 4, 5, 7, 11, 13, 17, 19, 23, 29, 31, 37, 109];
     random.shuffle(&mut lengths);
     lengths.truncate(random.within(3..=10));
-    let mut permutation = Vec::new();
-    for length in lengths {
-        let start = permutation.len();
-        if start + length <= MAX_SITES {
-            permutation.extend((0..length).map(|q| (start + (q + 1) % length) as u32));
-        }
+    while lengths.iter().sum::<usize>() > MAX_SITES {
+        lengths.pop();
     }
+    let permutation = cycles(&lengths);
     let permutations: Vec<Permutation> = (0..random.within(1..=4)).map(|_| power(&permutation, 1 + random.bits() % 3)).collect();
     let orders = permutations.iter().map(|permutation| exact_order(permutation) as u32).collect();
     Generators { sites: permutation.len(), permutations, orders }

@@ -5,7 +5,6 @@ use std::cell::RefCell;
 use std::ffi::{c_int, c_void};
 use std::ptr;
 use std::sync::Mutex;
-use std::sync::atomic::{AtomicUsize, Ordering};
 
 const PAGE: usize = 4096;
 const NONE: c_int = 0;
@@ -175,22 +174,20 @@ impl Drop for Memory {
     }
 }
 
-static PART: Mutex<&str> = Mutex::new("");
-static NUMBER: AtomicUsize = AtomicUsize::new(0);
+/// The case that is being run.
+static CASE: Mutex<(u64, &str, usize)> = Mutex::new((0, "", 0));
 
-/// Says which case is being run, for a fault in it.
-pub fn watch(part: &'static str, number: usize) {
-    NUMBER.store(number, Ordering::Relaxed);
-    let mut watched = PART.lock().unwrap();
-    if *watched != part {
-        *watched = part;
-        unsafe { signal(SEGMENTATION_FAULT, fault) };
-        unsafe { signal(BUS_ERROR, fault) };
-    }
+/// Says which case is run next, for a fault in it.
+pub fn watch(seed: u64, part: &'static str, number: usize) {
+    *CASE.lock().unwrap() = (seed, part, number);
+    unsafe { signal(SEGMENTATION_FAULT, fault) };
+    unsafe { signal(BUS_ERROR, fault) };
 }
 
 extern "C" fn fault(_: c_int) {
-    let part = PART.try_lock().map_or("?", |part| *part);
-    eprintln!("memory outside of the lists was touched in case {part} {}", NUMBER.load(Ordering::Relaxed));
+    if let Ok(case) = CASE.try_lock() {
+        let (seed, part, number) = *case;
+        eprintln!("{part} {number} touched memory outside of its lists; alone: compare/run --seed {seed} --alone {part} {number}");
+    }
     unsafe { _exit(2) };
 }

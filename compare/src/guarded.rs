@@ -2,9 +2,11 @@
 //! rule in the order of document 01 must answer, and no list may be left or touched otherwise than it says.
 
 use crate::cases::*;
+use crate::groups::{self, Bounds, Chosen, Generators, Permutation, cycles};
 use crate::random::Random;
+use crate::sheet;
 use crate::sizes::*;
-use crate::words::word_bytes;
+use crate::words::{self, word_bytes};
 
 const SITES: usize = 6;
 const ORDER: usize = 6;
@@ -24,7 +26,7 @@ fn each(lines: impl IntoIterator<Item = Line>) -> Vec<Case> {
 pub fn cases() -> Vec<Case> {
     let mut cases = Vec::new();
     cases.extend(texts());
-    cases.extend(words());
+    cases.extend(words_alone());
     cases.extend(lattices());
     cases.extend(generator_lists());
     cases.extend(group_questions());
@@ -38,18 +40,15 @@ pub fn cases() -> Vec<Case> {
 
 // ---- words
 
+/// Every single byte, and texts at the limit with and without a wrong letter at either end.
 fn texts() -> Vec<Case> {
-    let single = (0..=255).map(|letter| vec![letter]);
-    let long = [MAX_SITES, MAX_SITES + 1, 4096].into_iter().flat_map(|length| {
-        let fault = |position: usize| move |mut text: Vec<u8>| {
-            text[position] = b'_';
-            text
-        };
-        let good = vec![b'X'; length];
-        [good.clone(), fault(0)(good.clone()), fault(length - 1)(good)]
-    });
-    let all = [vec![], b"XYZI_".to_vec(), b"XIx".to_vec()].into_iter().chain(single).chain(long);
-    all.map(|text| vec![Line::Word(text), Line::Text]).collect()
+    let mut texts = vec![vec![], b"XYZI_".to_vec(), b"XIx".to_vec()];
+    texts.extend((0..=u8::MAX).map(|letter| vec![letter]));
+    for length in [MAX_SITES, MAX_SITES + 1, 4096] {
+        let letters = vec![b'X'; length];
+        texts.extend([letters.clone(), [b"_", &letters[1..]].concat(), [&letters[1..], b"_"].concat()]);
+    }
+    texts.into_iter().map(|text| vec![Line::Word(text), Line::Text]).collect()
 }
 
 /// Good and bad bytes of a word of SITES sites.
@@ -76,7 +75,7 @@ fn word_lines() -> Vec<Case> {
     each(byte_lists().into_iter().flat_map(of))
 }
 
-fn words() -> Vec<Case> {
+fn words_alone() -> Vec<Case> {
     let questions = [vec![Line::Text, Line::Weight], byte_lists().into_iter().map(Line::Compare).collect()].concat();
     cross(&word_lines(), &[questions])
 }
@@ -96,79 +95,80 @@ fn lattices() -> Vec<Case> {
     lattices.into_iter().map(|lattice| vec![Line::Lattice(lattice), Line::Targets, Line::Order]).collect()
 }
 
-/// Permutations of 168 sites of every kind with their orders, declared truly or not; two of them in a list that is itself sound or not.
-fn generator_lists() -> Vec<Case> {
-    const SITES: usize = 168;
-    let cycles = |lengths: &[usize]| -> Vec<u32> {
-        let mut perm: Vec<u32> = Vec::new();
-        for &length in lengths {
-            let start = perm.len();
-            perm.extend((0..length).map(|q| (start + (q + 1) % length) as u32));
-        }
-        perm.extend(perm.len() as u32..SITES as u32);
-        perm
-    };
-    let long = cycles(&[4, 5, 13, 37, 109]);
-    let mut wide = long.clone();
-    wide[7] = SITES as u32;
-    let mut twice = long.clone();
-    twice[9] = twice[3];
-    twice[10] = u32::MAX;
-    let kinds: [(Vec<u32>, u32); 8] = [
-        (long.clone(), 1_048_580),
-        (cycles(&[2, 3, 5, 7, 11, 13, 17, 19, 23, 29]), 1),
-        (cycles(&[2]), 2),
-        (cycles(&[]), 1),
-        (long[..SITES - 1].to_vec(), 1_048_580),
-        ([&long[..], &[0]].concat(), 1_048_580),
-        (wide, 1_048_580),
-        (twice, 1_048_580),
-    ];
-    let declared = |order: u32| [order, 0, order + 1];
-    let members: Vec<(&Vec<u32>, u32)> =
-        kinds.iter().flat_map(|(perm, order)| declared(*order).map(|declared| (perm, declared))).collect();
-    let flat = |chosen: &[(&Vec<u32>, u32)]| -> Vec<u32> {
-        chosen.iter().flat_map(|(perm, _)| [&[perm.len() as u32], &perm[..]].concat()).collect()
-    };
-    let mut lines = Vec::new();
-    let mut add = |chosen: &[(&Vec<u32>, u32)]| {
-        let (list, orders): (Vec<u32>, Vec<u32>) = (flat(chosen), chosen.iter().map(|member| member.1).collect());
-        let cut = list[..list.len().saturating_sub(1)].to_vec();
-        let fewer = orders[..orders.len().saturating_sub(1)].to_vec();
-        let more = [&orders[..], &[1]].concat();
-        for sites in [SITES, MAX_SITES + 1] {
-            for list in [&list, &cut] {
-                for orders in [&orders, &fewer, &more] {
-                    lines.push(Line::Group { sites, list: list.clone(), orders: orders.clone() });
-                }
-            }
-        }
-    };
-    for &first in &members {
-        add(&[first]);
-        members.iter().for_each(|&second| add(&[first, second]));
-    }
-    for member in [members[0], members[6], members[9]] {
-        (3..=6).for_each(|times| add(&vec![member; times]));
-        (3..=6).for_each(|times| add(&[&vec![members[9]; times - 1][..], &[member]].concat()));
-    }
-    lines.into_iter().map(|line| vec![line, Line::Order]).collect()
+/// A permutation and its declared order.
+type Generator = (Permutation, u32);
+
+/// The sites of the lists, and the order of the longest permutation in them.
+const LIST_SITES: usize = 168;
+const LONG_ORDER: u32 = 1_048_580;
+
+/// Cycles of these lengths, and the other sites of the lists fixed.
+fn cycles_and_fixed(lengths: &[usize]) -> Permutation {
+    let fixed = vec![1; LIST_SITES - lengths.iter().sum::<usize>()];
+    cycles(&[lengths, &fixed].concat())
 }
 
-/// A group of one generator with more generators forged after it: so many elements that they pass the limit, or 64 bits.
-fn forged_product(cycles: &[usize], generators: usize) -> Case {
-    let mut perm: Vec<u32> = Vec::new();
-    for &length in cycles {
-        let start = perm.len();
-        perm.extend((0..length).map(|q| (start + (q + 1) % length) as u32));
+/// Permutations of every kind, sound and unsound, each declared truly, as 0, and by one too many.
+fn generators() -> Vec<Generator> {
+    let long = cycles_and_fixed(&[4, 5, 13, 37, 109]);
+    let with = |q: usize, target: u32| {
+        let mut permutation = long.clone();
+        permutation[q] = target;
+        permutation
+    };
+    let kinds = [
+        (long.clone(), LONG_ORDER),
+        (cycles_and_fixed(&[2, 3, 5, 7, 11, 13, 17, 19, 23, 29]), 1),
+        (cycles_and_fixed(&[2]), 2),
+        (cycles_and_fixed(&[]), 1),
+        (long[..LIST_SITES - 1].to_vec(), LONG_ORDER),
+        ([&long[..], &[0]].concat(), LONG_ORDER),
+        (with(7, LIST_SITES as u32), LONG_ORDER),
+        (with(9, long[3]), LONG_ORDER),
+    ];
+    let declared = |(permutation, order): Generator| [order, 0, order + 1].map(|declared| (permutation.clone(), declared));
+    kinds.into_iter().flat_map(declared).collect()
+}
+
+/// A list of these generators as it is, for too many sites, cut at its end, and with an order too few or too many.
+fn lists_of(chosen: &[Generator]) -> Vec<Case> {
+    let (permutations, orders) = chosen.iter().cloned().unzip();
+    let Line::Group { list, orders, .. } = (Generators { sites: LIST_SITES, permutations, orders }).line() else { unreachable!() };
+    let mut cases = Vec::new();
+    for sites in [LIST_SITES, MAX_SITES + 1] {
+        for list in [&list[..], &list[..list.len() - 1]] {
+            for orders in [orders.clone(), orders[1..].to_vec(), [&orders[..], &[1]].concat()] {
+                cases.push(vec![Line::Group { sites, list: list.to_vec(), orders }, Line::Order]);
+            }
+        }
     }
-    let (sites, order) = (perm.len(), cycles.iter().product());
-    let mut case = vec![Line::Group { sites, list: [&[sites as u32], &perm[..]].concat(), orders: vec![order as u32] }];
-    for g in 1..generators {
+    cases
+}
+
+/// Each generator alone, each pair, and each after three of high order or before one to five more that change nothing.
+fn generator_lists() -> Vec<Case> {
+    let all = generators();
+    let (long, identity) = (all[0].clone(), all[9].clone());
+    let mut cases = Vec::new();
+    for first in &all {
+        cases.extend(lists_of(&[first.clone()]));
+        cases.extend(all.iter().flat_map(|second| lists_of(&[first.clone(), second.clone()])));
+        cases.extend(lists_of(&[vec![long.clone(); 3], vec![first.clone()]].concat()));
+        cases.extend((1..=5).flat_map(|more| lists_of(&[vec![first.clone()], vec![identity.clone(); more]].concat())));
+    }
+    cases
+}
+
+/// A group of one generator, and after it so many of the same kind, forged: more elements than the limit, or than 64 bits hold.
+fn forged_product(lengths: &[usize], more: usize) -> Case {
+    let permutation = cycles(lengths);
+    let (sites, order) = (permutation.len(), lengths.iter().product());
+    let mut case = vec![Generators { sites, permutations: vec![permutation.clone()], orders: vec![order as u32] }.line()];
+    for g in 1..=more {
         case.push(Line::Set(Place::Order(g), order));
-        case.extend(perm.iter().enumerate().map(|(q, &target)| Line::Set(Place::Target(MAX_SITES * g + q), target as usize)));
+        case.extend(permutation.iter().enumerate().map(|(q, &target)| Line::Set(Place::Target(MAX_SITES * g + q), target as usize)));
     }
-    case.push(Line::Set(Place::Generators, generators));
+    case.push(Line::Set(Place::Generators, 1 + more));
     case
 }
 
@@ -205,7 +205,7 @@ fn forgeries() -> Vec<(Place, usize)> {
 }
 
 /// The base group, forged ones, pairs of forgeries, and refused groups.
-fn groups() -> Vec<Case> {
+fn group_values() -> Vec<Case> {
     let sets: Vec<Line> = forgeries().into_iter().map(|(place, value)| Line::Set(place, value)).collect();
     let base = [vec![BASE]];
     let twice = cross(&each(sets.clone()), &each(sets.clone()));
@@ -213,13 +213,13 @@ fn groups() -> Vec<Case> {
     let square = [2, 0, 1, 5, 3, 4].into_iter().enumerate().map(|(q, target)| Line::Set(Place::Target(q), target)).collect();
     let exchanged = vec![Line::Set(Place::Target(0), 2), Line::Set(Place::Target(1), 1)];
     let mut groups = cross(&base, &[vec![vec![], square, exchanged], each(sets), twice].concat());
-    groups.extend([forged_product(&[4, 5, 13], 3), forged_product(&[4, 5, 13], 2), forged_product(&[2, 3, 5, 7, 11, 13, 17], 4)]);
+    groups.extend([forged_product(&[4, 5, 13], 1), forged_product(&[4, 5, 13], 2), forged_product(&[2, 3, 5, 7, 11, 13, 17], 3)]);
     groups.extend(each([Line::Lattice(Lattice::Chain(0)), Line::Group { sites: SITES, list: vec![1], orders: vec![] }]));
     groups
 }
 
 /// A few of each kind: good, 1, and 14 by the number of generators, an order, a target, and an unused place.
-fn some_groups() -> Vec<Case> {
+fn some_group_values() -> Vec<Case> {
     let chosen = [(Place::Sites, MAX_SITES + 1), (Place::Generators, 5), (Place::Order(0), 0), (Place::Target(0), SITES)];
     let sets = chosen.map(|(place, value)| vec![BASE, Line::Set(place, value)]);
     [vec![vec![BASE]], sets.to_vec(), vec![vec![BASE, Line::Set(Place::Target(TARGETS - 1), 1)]]].concat()
@@ -235,7 +235,7 @@ fn group_questions() -> Vec<Case> {
         questions.push(Line::Invert(index));
         questions.extend(places().map(|places| Line::Counter { index, places }));
     }
-    cross(&groups(), &[questions])
+    cross(&group_values(), &[questions])
 }
 
 // ---- orbits
@@ -245,7 +245,7 @@ fn word_questions() -> Vec<Case> {
     questions.extend(places().map(|places| Line::WithShift { places }));
     let bytes = [WORD_BYTES * ORDER, WORD_BYTES * ORDER - 1, WORD_BYTES * ORDER + 1, WORD_BYTES * (ORDER + 1), 0];
     questions.extend(bytes.map(|bytes| Line::OrbitList { bytes }));
-    cross(&cross(&some_groups(), &word_lines()), &[questions])
+    cross(&cross(&some_group_values(), &word_lines()), &[questions])
 }
 
 /// Walks with their index, group or word overwritten, alone and together, and steps past the end.
@@ -269,9 +269,9 @@ fn mode_lists() -> Vec<Case> {
 fn sectors() -> Vec<Case> {
     let digits = [vec![1, 1], vec![u32::MAX, 7], vec![], vec![1], vec![0, 0, 0], vec![0; 2000]].map(Line::Numerator);
     let tables = [ORDER, ORDER - 1, ORDER + 1, 0, 4000].map(|places| Line::Table { places });
-    let of_groups = cross(&cross(&groups(), &mode_lists()), &[[&digits[..], &tables[..]].concat()]);
+    let of_groups = cross(&cross(&group_values(), &mode_lists()), &[[&digits[..], &tables[..]].concat()]);
     let sector = places().map(|places| Line::Sector { places }).to_vec();
-    let of_words = cross(&cross(&cross(&some_groups(), &word_lines()), &mode_lists()), &[sector]);
+    let of_words = cross(&cross(&cross(&some_group_values(), &word_lines()), &mode_lists()), &[sector]);
     [of_groups, of_words].concat()
 }
 
@@ -301,80 +301,97 @@ fn row_lists() -> Vec<Case> {
     [none, kinds.to_vec(), pairs, threes].concat()
 }
 
-fn sums() -> Vec<Case> {
-    let clear = [vec![Line::Clear]];
-    let folded = cross(&cross(&some_groups(), &cross(&clear, &row_lists())), &each([Line::Sum]));
-    let few: Vec<Case> = cross(&clear, &row_lists()[..20]);
-    let lengths = |rows: usize| {
-        let right = [WORD_BYTES * rows, rows, WORD_BYTES * rows, rows, rows];
-        let mut all = vec![right];
-        for changed in 0..5 {
-            for value in [0, right[changed].wrapping_sub(1), right[changed] + 1, right[changed] + WORD_BYTES] {
-                let mut lengths = right;
-                lengths[changed] = value;
-                all.extend((value < 1 << 40).then_some(lengths));
-            }
+/// The lengths of the five lists of so many rows: as they must be, and each one otherwise.
+fn sum_lengths(rows: usize) -> Vec<Line> {
+    let right = [WORD_BYTES * rows, rows, WORD_BYTES * rows, rows, rows];
+    let mut all = vec![right];
+    for changed in 0..right.len() {
+        for value in [0, right[changed].saturating_sub(1), right[changed] + 1, right[changed] + WORD_BYTES] {
+            let mut lengths = right;
+            lengths[changed] = value;
+            all.push(lengths);
         }
-        all
+    }
+    let line = |[words, coefficients, representatives, sums, counts]: [usize; 5]| Line::SumOf {
+        words,
+        coefficients,
+        representatives,
+        sums,
+        counts,
     };
-    let all_lengths = [0, 1, 2, 3, MAX_ROWS, MAX_ROWS + 1].into_iter().flat_map(lengths);
-    let line = |[words, coefficients, representatives, sums, counts]: [usize; 5]| {
-        Line::SumOf { words, coefficients, representatives, sums, counts }
-    };
-    let questions: Vec<Line> = all_lengths.map(line).collect();
-    [folded, cross(&cross(&some_groups(), &few), &[questions])].concat()
+    all.into_iter().map(line).collect()
+}
+
+fn sums() -> Vec<Case> {
+    let rows = cross(&[vec![Line::Clear]], &row_lists());
+    let lengths: Vec<Line> = [0, 1, 2, 3, MAX_ROWS, MAX_ROWS + 1].into_iter().flat_map(sum_lengths).collect();
+    let of_rows = cross(&cross(&some_group_values(), &rows), &[vec![Line::Sum]]);
+    let of_lengths = cross(&cross(&some_group_values(), &rows[..20]), &[lengths]);
+    [of_rows, of_lengths].concat()
 }
 
 // ---- sheets
 
-fn sheets() -> Vec<Case> {
-    let shapes = [
-        "chain 4 0 0", "ladder 2 2 0", "torus2 2 2 0", "torus3 1 2 2", "ladder 4 1 0", "chain 4 1 0", "chain 4 0 1", "ladder 2 2 1",
-        "chain 0 0 0", "torus2 0 4 0", "torus3 2 0 257", "chain 257 0 0", "torus3 7 7 7", "chain 99999999999999999999999 0 0",
-        "torus2 99999999999999999999999 0 0", "chain 04 0 0", "chain -4 0 0", "ring 4 0 0", "chain 4 0", "chain 4 0 0 0", "chain  4 0 0",
-        "chain 4 0 0 ", "", "torus2 16 16 0",
-    ];
+#[rustfmt::skip]
+const SHAPES: [&str; 24] = [
+    "chain 4 0 0", "ladder 2 2 0", "torus2 2 2 0", "torus3 1 2 2", "ladder 4 1 0", "chain 4 1 0", "chain 4 0 1", "ladder 2 2 1", "chain 0 0 0",
+    "torus2 0 4 0", "torus3 2 0 257", "chain 257 0 0", "torus3 7 7 7", "chain 99999999999999999999999 0 0",
+    "torus2 99999999999999999999999 0 0", "chain 04 0 0", "chain -4 0 0", "ring 4 0 0", "chain 4 0", "chain 4 0 0 0", "chain  4 0 0",
+    "chain 4 0 0 ", "", "torus2 16 16 0",
+];
+
+#[rustfmt::skip]
+const ROWS: [&str; 17] = [
+    "XIII 1 0 0", "XIXI 1 0 0", "XIXI -2 0 0", "XIII 0 1 0", "ZZZZ 0 0 -2147483648", "IIII 2147483647 0 0", "IIII 2147483648 0 0",
+    "IIII -0 0 0", "IIII 01 0 0", "XIII 1 0", "XIII 1 0 0 0", " 1 0 0", "XIIQ 1 0 0", "XII 0 0 0", "XIIII 0 0 0", "_III x 0 0", "",
+];
+
+/// Every shape with every row, and every row after every other, with and without a line end at the end.
+fn sheet_texts() -> Vec<String> {
     let long = format!("{} 0 0 0", "X".repeat(MAX_SITES + 1));
-    let rows = [
-        "XIII 1 0 0", "XIXI 1 0 0", "XIXI -2 0 0", "XIII 0 1 0", "ZZZZ 0 0 -2147483648", "IIII 2147483647 0 0", "IIII 2147483648 0 0",
-        "IIII -0 0 0", "IIII 01 0 0", "XIII 1 0", "XIII 1 0 0 0", " 1 0 0", "XIIQ 1 0 0", "XII 0 0 0", "XIIII 0 0 0", "_III x 0 0", &long, "",
-    ];
-    let mut sheets: Vec<String> = ["", "\n", "shape a b c", "shape a b c\n", "shape a b d\nchain 4 0 0\n"].map(String::from).to_vec();
-    for shape in shapes {
-        sheets.push(format!("shape a b c\n{shape}"));
-        sheets.push(format!("shape a b c\n{shape}\n"));
+    let rows = [&ROWS[..], &[&long]].concat();
+    let mut sheets = ["", "\n", "shape a b c", "shape a b c\n", "shape a b d\nchain 4 0 0\n"].map(String::from).to_vec();
+    for shape in SHAPES {
+        sheets.extend([format!("shape a b c\n{shape}"), format!("shape a b c\n{shape}\n")]);
         for names in ["word k0 k1 k2", "word k0 k1", ""] {
             sheets.push(format!("shape a b c\n{shape}\n{names}\n"));
-            for row in rows {
-                sheets.push(format!("shape a b c\n{shape}\n{names}\n{row}\n"));
-            }
+            sheets.extend(rows.iter().map(|row| format!("shape a b c\n{shape}\n{names}\n{row}\n")));
         }
     }
-    for first in rows {
-        for second in rows {
-            sheets.push(format!("shape a b c\nchain 4 0 0\nword k0 k1 k2\n{first}\n{second}\n"));
-            sheets.push(format!("shape a b c\nchain 4 0 0\nword k0 k1 k2\n{first}\n{second}"));
+    for first in &rows {
+        for second in &rows {
+            let sheet = format!("shape a b c\nchain 4 0 0\nword k0 k1 k2\n{first}\n{second}");
+            sheets.extend([sheet.clone() + "\n", sheet]);
         }
     }
+    sheets
+}
+
+/// The longest sheet that there may be, with a last line that is whole or not, and a longer one.
+fn long_sheets() -> [String; 3] {
     let head = "shape a b c\nchain 5 0 0\nword k0 k1 k2\n";
-    let full = head.to_string() + &"XIZII 1 0 0\n".repeat((MAX_SHEET - head.len()) / 12);
-    let padded = |length: usize| full.clone() + &"X".repeat(length - full.len());
-    let mut cases = Vec::new();
-    for sheet in sheets {
-        let printed = crate::sheet::printed(sheet.as_bytes()).len();
-        for places in [512.max(printed), printed, printed - 1, 0] {
-            cases.push(vec![Line::Sheet { places, text: sheet.clone().into_bytes() }]);
-        }
-    }
-    for text in [full.clone(), padded(MAX_SHEET), padded(MAX_SHEET + 1)] {
-        cases.push(vec![Line::Sheet { places: MAX_TABLE, text: text.into_bytes() }]);
+    let row = "XIZII 1 0 0\n";
+    let whole = head.to_string() + &row.repeat((MAX_SHEET - head.len()) / row.len());
+    let padded = |length: usize| whole.clone() + &"X".repeat(length - whole.len());
+    [whole.clone(), padded(MAX_SHEET), padded(MAX_SHEET + 1)]
+}
+
+/// Sheets, into lists that are long enough, just long enough, and too short.
+fn sheets() -> Vec<Case> {
+    let case = |places: usize, sheet: &str| vec![Line::Sheet { places, text: sheet.as_bytes().to_vec() }];
+    let mut cases: Vec<Case> = long_sheets().iter().map(|sheet| case(MAX_TABLE, sheet)).collect();
+    for sheet in sheet_texts() {
+        let printed = sheet::printed(sheet.as_bytes()).len();
+        cases.extend([MAX_TABLE.min(2 * printed), printed, printed - 1, 0].map(|places| case(places, &sheet)));
     }
     cases
 }
 
-/// A random group with some of its numbers overwritten, and what may be asked of it.
-pub fn forged_case(random: &mut Random, bounds: crate::groups::Bounds) -> Case {
-    let crate::groups::Chosen { line, group } = crate::groups::group(random, bounds);
+// ---- random forgeries
+
+/// A random group with one or two of its numbers overwritten, and what may be asked of it.
+pub fn forged_case(random: &mut Random, bounds: Bounds) -> Case {
+    let Chosen { line, group } = groups::group(random, bounds);
     let mut case = vec![line];
     for _ in 0..random.within(1..=2) {
         let near = group.n_qubits() + random.below(3);
@@ -388,7 +405,6 @@ pub fn forged_case(random: &mut Random, bounds: crate::groups::Bounds) -> Case {
         };
         case.push(Line::Set(place, value));
     }
-    let word = crate::words::word(random, &group);
-    case.extend([Line::Order, Line::Word(word), Line::WithIndex, Line::Orbit, Line::Next(2)]);
+    case.extend([Line::Order, Line::Word(words::word(random, &group)), Line::WithIndex, Line::Orbit, Line::Next(2)]);
     case
 }

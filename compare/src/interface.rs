@@ -51,3 +51,20 @@ unsafe extern "C" {
     pub fn gomurin_sheet(input: *const u8, input_length: usize, list: *mut u8, list_length: usize, length: *mut usize,
         values: *mut usize) -> usize;
 }
+
+/// The four parts of a group, as every call takes them.
+#[derive(Clone, Copy)]
+pub struct GroupParts {
+    pub sites: usize,
+    pub generators: usize,
+    pub orders: *const u32,
+    pub targets: *const u32,
+}
+
+/// A call whose first parameters are the parts of a group.
+macro_rules! call_of_group {
+    ($call:ident, $group:expr, $($argument:expr),*) => {
+        unsafe { $call($group.sites, $group.generators, $group.orders, $group.targets, $($argument),*) }
+    };
+}
+pub(crate) use call_of_group;

@@ -24,14 +24,6 @@ struct Walk {
     index: usize,
 }
 
-/// A group value lent to a call.
-struct LentGroup {
-    sites: usize,
-    generators: usize,
-    orders: Lent<u32>,
-    targets: Lent<u32>,
-}
-
 /// Room for a group value that a call hands back.
 struct GroupRoom {
     sites: Lent<usize>,
@@ -150,9 +142,7 @@ impl Ours {
         let (list, declared, room) = (self.memory.lend(list), self.memory.lend(declared), GroupRoom::of(&mut self.memory));
         let values = self.memory.room(VALUES);
         let (n, g, o, t) = room.at();
-        let rule = unsafe {
-            gomurin_try_from_generators(sites, list.at, list.length, declared.at, declared.length, n, g, o, t, values.at)
-        };
+        let rule = unsafe { gomurin_try_from_generators(sites, list.at, list.length, declared.at, declared.length, n, g, o, t, values.at) };
         self.group = room.group();
         said(rule, values, &[], || "accepted".to_string())
     }
@@ -176,28 +166,22 @@ impl Ours {
     /// `gomurin_order` or `gomurin_phase_modulus`.
     fn order(&mut self, call: unsafe extern "C" fn(usize, usize, *const u32, *const u32, *mut usize, *mut usize) -> usize) -> String {
         let m = &mut self.memory;
-        let (group, number, values) = (LentGroup::of(m, &self.group), m.room(1), m.room(VALUES));
-        let rule = unsafe { call(group.sites, group.generators, group.orders.at, group.targets.at, number.at, values.at) };
+        let (group, number, values) = (lend_group(m, &self.group), m.room(1), m.room(VALUES));
+        let rule = call_of_group!(call, group, number.at, values.at);
         said(rule, values, &[zeros(number)], || number.first().to_string())
     }
 
     fn counter_from_index(&mut self, index: usize, places: usize) -> String {
         let m = &mut self.memory;
-        let (group, counter, values) = (LentGroup::of(m, &self.group), m.room_with(&vec![u32::from(FILL); places]), m.room(VALUES));
-        let rule = unsafe {
-            gomurin_counter_from_index(
-                group.sites, group.generators, group.orders.at, group.targets.at, index, counter.at, counter.length, values.at,
-            )
-        };
+        let (group, counter, values) = (lend_group(m, &self.group), m.room_with(&vec![u32::from(FILL); places]), m.room(VALUES));
+        let rule = call_of_group!(gomurin_counter_from_index, group, index, counter.at, counter.length, values.at);
         said(rule, values, &[], || "done".to_string()) + ":" + &list(counter.get())
     }
 
     fn invert_index(&mut self, index: usize) -> String {
         let m = &mut self.memory;
-        let (group, inverse, values) = (LentGroup::of(m, &self.group), m.room(1), m.room(VALUES));
-        let rule = unsafe {
-            gomurin_invert_index(group.sites, group.generators, group.orders.at, group.targets.at, index, inverse.at, values.at)
-        };
+        let (group, inverse, values) = (lend_group(m, &self.group), m.room(1), m.room(VALUES));
+        let rule = call_of_group!(gomurin_invert_index, group, index, inverse.at, values.at);
         said(rule, values, &[zeros(inverse)], || inverse.first().to_string())
     }
 
@@ -205,52 +189,43 @@ impl Ours {
 
     fn canonicalize(&mut self) -> String {
         let m = &mut self.memory;
-        let (group, word) = (LentGroup::of(m, &self.group), m.lend(&self.word));
+        let (group, word) = (lend_group(m, &self.group), m.lend(&self.word));
         let (least, values) = (m.room::<u8>(WORD_BYTES), m.room(VALUES));
-        let rule = unsafe {
-            gomurin_canonicalize(
-                group.sites, group.generators, group.orders.at, group.targets.at, self.sites, word.at, word.length, least.at, values.at,
-            )
-        };
+        let rule = call_of_group!(gomurin_canonicalize, group, self.sites, word.at, word.length, least.at, values.at);
         said(rule, values, &[zeros(least)], || letters(self.sites, least.get()))
     }
 
     fn canonicalize_with_index(&mut self) -> String {
         let m = &mut self.memory;
-        let (group, word) = (LentGroup::of(m, &self.group), m.lend(&self.word));
+        let (group, word) = (lend_group(m, &self.group), m.lend(&self.word));
         let (least, index, values) = (m.room::<u8>(WORD_BYTES), m.room(1), m.room(VALUES));
-        let rule = unsafe {
-            gomurin_canonicalize_with_index(
-                group.sites, group.generators, group.orders.at, group.targets.at, self.sites, word.at, word.length, least.at, index.at,
-                values.at,
-            )
-        };
+        let rule = call_of_group!(gomurin_canonicalize_with_index, group, self.sites, word.at, word.length, least.at, index.at, values.at);
         said(rule, values, &[zeros(least), zeros(index)], || format!("{} {}", letters(self.sites, least.get()), index.first()))
     }
 
     fn canonicalize_with_shift(&mut self, places: usize) -> String {
         let m = &mut self.memory;
-        let (group, word) = (LentGroup::of(m, &self.group), m.lend(&self.word));
+        let (group, word) = (lend_group(m, &self.group), m.lend(&self.word));
         let (least, counter, values) = (m.room::<u8>(WORD_BYTES), m.room_with(&vec![u32::from(FILL); places]), m.room(VALUES));
-        let rule = unsafe {
-            gomurin_canonicalize_with_shift(
-                group.sites, group.generators, group.orders.at, group.targets.at, self.sites, word.at, word.length, least.at, counter.at,
-                counter.length, values.at,
-            )
-        };
+        let rule = call_of_group!(
+            gomurin_canonicalize_with_shift,
+            group,
+            self.sites,
+            word.at,
+            word.length,
+            least.at,
+            counter.at,
+            counter.length,
+            values.at
+        );
         said(rule, values, &[zeros(least)], || letters(self.sites, least.get())) + ":" + &list(counter.get())
     }
 
     fn orbit_list(&mut self, bytes: usize) -> String {
         let m = &mut self.memory;
-        let (group, word) = (LentGroup::of(m, &self.group), m.lend(&self.word));
+        let (group, word) = (lend_group(m, &self.group), m.lend(&self.word));
         let (entries, values) = (m.room::<u8>(bytes), m.room(VALUES));
-        let rule = unsafe {
-            gomurin_orbit_list(
-                group.sites, group.generators, group.orders.at, group.targets.at, self.sites, word.at, word.length, entries.at,
-                entries.length, values.at,
-            )
-        };
+        let rule = call_of_group!(gomurin_orbit_list, group, self.sites, word.at, word.length, entries.at, entries.length, values.at);
         let refused = said(rule, values, &[], String::new);
         if rule != 0 {
             return refused + if filled(entries) { ", as it was" } else { ", changed" };
@@ -260,27 +235,18 @@ impl Ours {
 
     fn orbit(&mut self) -> String {
         let m = &mut self.memory;
-        let (group, word) = (LentGroup::of(m, &self.group), m.lend(&self.word));
+        let (group, word) = (lend_group(m, &self.group), m.lend(&self.word));
         let (at, index, values) = (m.room::<u8>(WORD_BYTES), m.room(1), m.room(VALUES));
-        let rule = unsafe {
-            gomurin_orbit(
-                group.sites, group.generators, group.orders.at, group.targets.at, self.sites, word.at, word.length, at.at, index.at,
-                values.at,
-            )
-        };
+        let rule = call_of_group!(gomurin_orbit, group, self.sites, word.at, word.length, at.at, index.at, values.at);
         self.walk = Walk { group: self.group.clone(), at: at.get().to_vec(), index: index.first() };
         said(rule, values, &[], || "begun".to_string())
     }
 
     fn next(&mut self) -> String {
         let m = &mut self.memory;
-        let (group, at, index) = (LentGroup::of(m, &self.walk.group), m.room_with(&self.walk.at), m.room_with(&[self.walk.index]));
+        let (group, at, index) = (lend_group(m, &self.walk.group), m.room_with(&self.walk.at), m.room_with(&[self.walk.index]));
         let (word, entry, finished, values) = (m.room::<u8>(WORD_BYTES), m.room::<usize>(1), m.room::<u8>(1), m.room(VALUES));
-        let rule = unsafe {
-            gomurin_next(
-                group.sites, group.generators, group.orders.at, group.targets.at, at.at, index.at, word.at, entry.at, finished.at, values.at,
-            )
-        };
+        let rule = call_of_group!(gomurin_next, group, at.at, index.at, word.at, entry.at, finished.at, values.at);
         let stayed = at.get() == self.walk.at && index.first() == self.walk.index;
         (self.walk.at, self.walk.index) = (at.get().to_vec(), index.first());
         let sites = self.walk.group.sites;
@@ -296,40 +262,41 @@ impl Ours {
 
     fn character_numerator(&mut self, digits: &[u32]) -> String {
         let m = &mut self.memory;
-        let (group, modes, counter) = (LentGroup::of(m, &self.group), m.lend(&self.modes), m.lend(digits));
+        let (group, modes, counter) = (lend_group(m, &self.group), m.lend(&self.modes), m.lend(digits));
         let (numerator, values) = (m.room(1), m.room(VALUES));
-        let rule = unsafe {
-            gomurin_character_numerator(
-                group.sites, group.generators, group.orders.at, group.targets.at, modes.at, modes.length, counter.at, counter.length,
-                numerator.at, values.at,
-            )
-        };
+        let rule =
+            call_of_group!(gomurin_character_numerator, group, modes.at, modes.length, counter.at, counter.length, numerator.at, values.at);
         said(rule, values, &[zeros(numerator)], || numerator.first().to_string())
     }
 
     fn character_table(&mut self, places: usize) -> String {
         let m = &mut self.memory;
-        let (group, modes) = (LentGroup::of(m, &self.group), m.lend(&self.modes));
+        let (group, modes) = (lend_group(m, &self.group), m.lend(&self.modes));
         let (table, values) = (m.room_with(&vec![usize::from(FILL); places]), m.room(VALUES));
-        let rule = unsafe {
-            gomurin_character_table(
-                group.sites, group.generators, group.orders.at, group.targets.at, modes.at, modes.length, table.at, table.length, values.at,
-            )
-        };
+        let rule = call_of_group!(gomurin_character_table, group, modes.at, modes.length, table.at, table.length, values.at);
         said(rule, values, &[], || "done".to_string()) + ":" + &list(table.get())
     }
 
     fn canonicalize_in_sector(&mut self, places: usize) -> String {
         let m = &mut self.memory;
-        let (group, word, modes) = (LentGroup::of(m, &self.group), m.lend(&self.word), m.lend(&self.modes));
+        let (group, word, modes) = (lend_group(m, &self.group), m.lend(&self.word), m.lend(&self.modes));
         let (least, counter, size) = (m.room::<u8>(WORD_BYTES), m.room_with(&vec![u32::from(FILL); places]), m.room::<usize>(1));
         let (kept, values) = (m.room::<u8>(1), m.room(VALUES));
-        let rule = unsafe {
-            gomurin_canonicalize_in_sector(
-                group.sites, group.generators, group.orders.at, group.targets.at, self.sites, word.at, word.length, modes.at, modes.length,
-                least.at, counter.at, counter.length, size.at, kept.at, values.at,
-            )
-        };
+        let rule = call_of_group!(
+            gomurin_canonicalize_in_sector,
+            group,
+            self.sites,
+            word.at,
+            word.length,
+            modes.at,
+            modes.length,
+            least.at,
+            counter.at,
+            counter.length,
+            size.at,
+            kept.at,
+            values.at
+        );
         let answer = said(rule, values, &[zeros(least), zeros(size), zeros(kept)], || match kept.first() {
             1 => format!("kept {} {}", size.first(), letters(self.sites, least.get())),
             0 if zeros(least) && zeros(size) => "dropped".to_string(),
@@ -353,23 +320,39 @@ impl Ours {
         words.resize(lengths[0], 0);
         coefficients.resize(lengths[1], 0.0);
         let m = &mut self.memory;
-        let (group, words, coefficients) = (LentGroup::of(m, &self.group), m.lend(&words), m.lend(&coefficients));
+        let (group, words, coefficients) = (lend_group(m, &self.group), m.lend(&words), m.lend(&coefficients));
         let (representatives, sums, counts) = (m.room::<u8>(lengths[2]), m.room::<f64>(lengths[3]), m.room::<u32>(lengths[4]));
         let (number, values) = (m.room::<usize>(1), m.room(VALUES));
-        let rule = unsafe {
-            gomurin_canonicalize_pauli_sum(
-                group.sites, group.generators, group.orders.at, group.targets.at, words.at, words.length, coefficients.at,
-                coefficients.length, representatives.at, representatives.length, sums.at, sums.length, counts.at, counts.length, number.at,
-                values.at,
-            )
-        };
+        let rule = call_of_group!(
+            gomurin_canonicalize_pauli_sum,
+            group,
+            words.at,
+            words.length,
+            coefficients.at,
+            coefficients.length,
+            representatives.at,
+            representatives.length,
+            sums.at,
+            sums.length,
+            counts.at,
+            counts.length,
+            number.at,
+            values.at
+        );
         let zero = zeros(representatives) && zeros(sums) && zeros(counts);
         if rule != 0 {
             let stayed = filled(representatives) && filled(sums) && filled(counts);
             let rows_named = usize::from(rule == 17);
             let refused = said_of(rule, values, values_named(rule) + rows_named, &[zeros(number)], String::new);
             // Where all lists are empty they are both.
-            return refused + if rule != 25 && stayed { ", as they were" } else if zero { ", zeros" } else { ", changed" };
+            return refused
+                + if rule != 25 && stayed {
+                    ", as they were"
+                } else if zero {
+                    ", zeros"
+                } else {
+                    ", changed"
+                };
         }
         let number = number.first();
         let words = representatives.get().chunks(WORD_BYTES);
@@ -397,11 +380,9 @@ impl Ours {
     }
 }
 
-impl LentGroup {
-    fn of(memory: &mut Memory, group: &Group) -> LentGroup {
-        let (orders, targets) = (memory.lend(&group.orders), memory.lend(&group.targets));
-        LentGroup { sites: group.sites, generators: group.generators, orders, targets }
-    }
+fn lend_group(memory: &mut Memory, group: &Group) -> GroupParts {
+    let (orders, targets) = (memory.lend(&group.orders), memory.lend(&group.targets));
+    GroupParts { sites: group.sites, generators: group.generators, orders: orders.at, targets: targets.at }
 }
 
 impl GroupRoom {

@@ -9,13 +9,17 @@ use crate::rust::Rust;
 use crate::{example, exhaustive, groups, guarded, orbits, sectors, sums, words};
 use std::time::Instant;
 
-/// What a part checks of its case of a number: nothing, or the difference as a text.
-type Check = Box<dyn Fn(usize) -> Result<(), String>>;
-
 struct Part {
     name: &'static str,
     count: usize,
-    check: Check,
+    kind: Kind,
+}
+
+enum Kind {
+    /// The case of a number, for both sides.
+    Case(Box<dyn Fn(usize) -> Case>),
+    /// What else is checked; a difference is a text.
+    Check(Box<dyn Fn(usize) -> Result<(), String>>),
 }
 
 /// Random parts have so many shares of the random cases.
@@ -24,23 +28,25 @@ const SHARES: usize = 10_000;
 /// Differences that are printed of one part; the others are counted.
 const PRINTED: usize = 5;
 
-/// Letters of an answer that are printed around the place where the answers part.
+/// Letters of an answer that are printed before and after the place where the answers part.
 const SHOWN: usize = 100;
 
 fn parts(seed: u64, count: usize) -> Vec<Part> {
     let random = |name: &'static str, share: usize, bounds: fn(&mut Random) -> Bounds, make: fn(&mut Random, Bounds) -> Case| {
-        let check = move |number| {
+        let case = move |number| {
             let mut random = Random::of(seed, name, number);
             let bounds = bounds(&mut random);
-            compare(&make(&mut random, bounds), number)
+            make(&mut random, bounds)
         };
-        Part { name, count: (count * share).div_ceil(SHARES), check: Box::new(check) }
+        Part { name, count: (count * share).div_ceil(SHARES), kind: Kind::Case(Box::new(case)) }
     };
+    // Each listed case twice, so that its lists stand at the one and at the other guard page.
     let listed = |name: &'static str, cases: Vec<Case>| {
         let count = 2 * cases.len();
-        Part { name, count, check: Box::new(move |number| compare(&cases[number / 2], number)) }
+        Part { name, count, kind: Kind::Case(Box::new(move |number| cases[number / 2].clone())) }
     };
     let counted = exhaustive::counted();
+    let pairs = move |number: usize| exhaustive::count_pairs(counted[number].0, &counted[number].1);
     vec![
         random("words", 1_000, |_| Bounds::ALL, words::case),
         random("groups", 1_500, |_| Bounds::ALL, groups::case),
@@ -51,10 +57,20 @@ fn parts(seed: u64, count: usize) -> Vec<Part> {
         random("forged", 500, Bounds::common, guarded::forged_case),
         random("large", 2, |_| Bounds::ALL, orbits::large_case),
         listed("exhaustive", exhaustive::cases()),
-        Part { name: "pairs", count: counted.len(), check: Box::new(move |i| exhaustive::count_pairs(counted[i].0, &counted[i].1)) },
+        Part { name: "pairs", count: exhaustive::counted().len(), kind: Kind::Check(Box::new(pairs)) },
         listed("guarded", guarded::cases()),
-        Part { name: "example", count: 1, check: Box::new(|_| example::check()) },
+        Part { name: "example", count: 1, kind: Kind::Check(Box::new(|_| example::check())) },
     ]
+}
+
+impl Part {
+    fn check(&self, seed: u64, number: usize) -> Result<(), String> {
+        guard::watch(seed, self.name, number);
+        match &self.kind {
+            Kind::Case(case) => compare(&case(number), number),
+            Kind::Check(check) => check(number),
+        }
+    }
 }
 
 /// Runs all parts, with a line for each; how many cases there were and how many differ.
@@ -72,25 +88,26 @@ pub fn compare_all(seed: u64, count: usize) -> (usize, usize) {
 fn compare_part(part: &Part, seed: u64) -> usize {
     let mut differ = 0;
     for number in 0..part.count {
-        guard::watch(part.name, number);
-        if let Err(difference) = (part.check)(number) {
+        if let Err(difference) = part.check(seed, number) {
             differ += 1;
             if differ <= PRINTED {
-                println!("{} {number} differs (compare/run --seed {seed} --alone {} {number}):\n{difference}", part.name, part.name);
+                println!("{} {number} differs; alone: compare/run --seed {seed} --alone {} {number}\n{difference}", part.name, part.name);
             }
         }
     }
     differ
 }
 
-/// Runs one case; how many differ, or none if there is no such case. A random part has a case of every number.
+/// Runs one case, after its lines; how many differ, or none if there is no such case. A random part has a case of every number.
 pub fn compare_alone(seed: u64, name: &str, number: usize) -> Option<usize> {
     let part = parts(seed, usize::MAX / SHARES).into_iter().find(|part| part.name == name && number < part.count)?;
-    guard::watch(part.name, number);
-    let result = (part.check)(number);
+    if let Kind::Case(case) = &part.kind {
+        println!("{}", lines(&case(number)));
+    }
+    let result = part.check(seed, number);
     let differ = usize::from(result.is_err());
     if let Err(difference) = result {
-        println!("{difference}");
+        println!("differs:\n{difference}");
     }
     println!("1 compared, {differ} differ");
     Some(differ)
@@ -98,7 +115,7 @@ pub fn compare_alone(seed: u64, name: &str, number: usize) -> Option<usize> {
 
 /// Puts a case to both sides. Its lists stand at the one or the other guard page by its number.
 fn compare(case: &Case, number: usize) -> Result<(), String> {
-    let side = if number % 2 == 0 { Side::After } else { Side::Before };
+    let side = if number.is_multiple_of(2) { Side::After } else { Side::Before };
     let (mut rust, mut ours) = (Rust::new(), Ours::new(side));
     for (i, line) in case.iter().enumerate() {
         let (expected, found) = (rust.answer(line), ours.answer(line));
@@ -109,11 +126,18 @@ fn compare(case: &Case, number: usize) -> Result<(), String> {
     Ok(())
 }
 
-/// The lines up to the one that is answered differently, and both answers from a little before they part.
+fn lines(case: &[Line]) -> String {
+    let lines: Vec<String> = case.iter().map(Line::to_string).collect();
+    lines.join("\n")
+}
+
+/// The lines up to the one that is answered differently, and both answers around the place where they part.
 fn difference(case: &[Line], expected: &str, found: &str) -> String {
-    let lines: String = case.iter().map(|line| format!("  {line}\n")).collect();
     let apart = expected.bytes().zip(found.bytes()).take_while(|(a, b)| a == b).count();
-    let from = if apart > SHOWN { apart - SHOWN / 2 } else { 0 };
-    let cut = |answer: &str| answer.chars().skip(from).take(2 * SHOWN).collect::<String>();
-    format!("{lines}  expected, from letter {from} on: {}\n  ours, from letter {from} on:     {}", cut(expected), cut(found))
+    let from = apart.saturating_sub(SHOWN);
+    let shown = |answer: &str| {
+        let part: String = answer.chars().skip(from).take(2 * SHOWN).collect();
+        if from == 0 { part } else { format!("..{part}") }
+    };
+    format!("{}\n# expected: {}\n# ours:     {}", lines(case), shown(expected), shown(found))
 }
