@@ -43,39 +43,32 @@ impl Measured {
 
 /// A line for each measurement.
 pub fn lines() {
-    measure_all(|m| {
-        let (ours, rust) = (&m.ours, &m.rust);
-        println!(
-            "bench {}, {}: ours {:.0} ns (median {:.0}), the Rust {:.0} ns (median {:.0}), ratio {:.2}",
-            m.name,
-            m.call,
-            ours.least,
-            ours.median,
-            rust.least,
-            rust.median,
-            m.ratio()
-        );
-    });
+    measure_all(|m| println!("bench {}, {}: ours {}, the Rust {}, ratio {:.2}", m.name, m.call, m.ours.both(), m.rust.both(), m.ratio()));
 }
 
 /// The table of docs/BENCH.md.
 pub fn table() {
-    println!("| group | sites | order | call | ours, least | ours, median | the Rust, least | the Rust, median | ratio |");
-    println!("|---|---|---|---|---|---|---|---|---|");
+    println!("| group | sites | order | call | ours: least, median | the Rust: least, median | ratio |");
+    println!("|---|---|---|---|---|---|---|");
     measure_all(|m| {
-        println!(
-            "| {} | {} | {} | `{}` | {:.0} ns | {:.0} ns | {:.0} ns | {:.0} ns | {:.2} |",
-            m.name,
-            m.sites,
-            m.order,
-            m.call,
-            m.ours.least,
-            m.ours.median,
-            m.rust.least,
-            m.rust.median,
-            m.ratio()
-        );
+        let (ours, rust) = (m.ours.both(), m.rust.both());
+        println!("| {} | {} | {} | `{}` | {ours} | {rust} | {:.2} |", m.name, m.sites, m.order, m.call, m.ratio());
     });
+}
+
+impl Times {
+    fn both(&self) -> String {
+        format!("{}, {}", time(self.least), time(self.median))
+    }
+}
+
+/// Nanoseconds in a readable unit.
+fn time(nanoseconds: f64) -> String {
+    match nanoseconds {
+        ..1e4 => format!("{nanoseconds:.0} ns"),
+        ..1e7 => format!("{:.1} µs", nanoseconds / 1e3),
+        _ => format!("{:.0} ms", nanoseconds / 1e6),
+    }
 }
 
 fn measure_all(report: impl Fn(&Measured)) {

@@ -248,8 +248,13 @@ pub fn steps(answers: &[String]) -> String {
     answers.join("; ")
 }
 
+/// The lengths of the lists of a sum of so many rows: words, coefficients, representatives, sums and counts.
+pub fn sum_lengths(rows: usize) -> [usize; 5] {
+    [WORD_BYTES * rows, rows, WORD_BYTES * rows, rows, rows]
+}
+
 /// The rows of a folded sum: word, coefficient by its bits, count.
-pub fn rows<'a>(rows: impl Iterator<Item = (String, f64, u32)> + 'a) -> String {
-    let rows: Vec<String> = rows.map(|(word, sum, count)| format!(" {word} {:016x} {count}", sum.to_bits())).collect();
-    format!("{} rows:{}", rows.len(), rows.concat())
+pub fn rows(number: usize, rows: impl Iterator<Item = (String, f64, u32)>) -> String {
+    let rows: String = rows.map(|(word, sum, count)| format!(" {word} {:016x} {count}", sum.to_bits())).collect();
+    format!("{number} rows:{rows}")
 }

@@ -1,5 +1,5 @@
 //! Memory between two pages that nobody may touch. Everything that a call is lent stands in such a place, hard at one of the two pages, so that a read
-//! or a write outside ends the program; `watch` says in which case. On the other side stand marks, which `untouched` looks at.
+//! or a write outside ends the program, which then names the case. On the other side stand marks, which `untouched` looks at.
 
 use std::cell::RefCell;
 use std::ffi::{c_int, c_void};
@@ -180,14 +180,27 @@ static CASE: Mutex<(u64, &str, usize)> = Mutex::new((0, "", 0));
 /// Says which case is run next, for a fault in it.
 pub fn watch(seed: u64, part: &'static str, number: usize) {
     *CASE.lock().unwrap() = (seed, part, number);
+}
+
+/// From now on a fault names the case that it is in, and ends the program.
+pub fn name_faults() {
     unsafe { signal(SEGMENTATION_FAULT, fault) };
     unsafe { signal(BUS_ERROR, fault) };
+    std::panic::set_hook(Box::new(|panic| {
+        eprintln!("{panic}");
+        name_case();
+    }));
 }
 
 extern "C" fn fault(_: c_int) {
+    eprintln!("memory outside of the lists was touched");
+    name_case();
+    unsafe { _exit(2) };
+}
+
+fn name_case() {
     if let Ok(case) = CASE.try_lock() {
         let (seed, part, number) = *case;
-        eprintln!("{part} {number} touched memory outside of its lists; alone: compare/run --seed {seed} --alone {part} {number}");
+        eprintln!("in {part} {number}; alone: compare/run --seed {seed} --alone {part} {number}");
     }
-    unsafe { _exit(2) };
 }

@@ -302,8 +302,8 @@ fn row_lists() -> Vec<Case> {
 }
 
 /// The lengths of the five lists of so many rows: as they must be, and each one otherwise.
-fn sum_lengths(rows: usize) -> Vec<Line> {
-    let right = [WORD_BYTES * rows, rows, WORD_BYTES * rows, rows, rows];
+fn sums_of_lengths(rows: usize) -> Vec<Line> {
+    let right = sum_lengths(rows);
     let mut all = vec![right];
     for changed in 0..right.len() {
         for value in [0, right[changed].saturating_sub(1), right[changed] + 1, right[changed] + WORD_BYTES] {
@@ -324,7 +324,7 @@ fn sum_lengths(rows: usize) -> Vec<Line> {
 
 fn sums() -> Vec<Case> {
     let rows = cross(&[vec![Line::Clear]], &row_lists());
-    let lengths: Vec<Line> = [0, 1, 2, 3, MAX_ROWS, MAX_ROWS + 1].into_iter().flat_map(sum_lengths).collect();
+    let lengths: Vec<Line> = [0, 1, 2, 3, MAX_ROWS, MAX_ROWS + 1].into_iter().flat_map(sums_of_lengths).collect();
     let of_rows = cross(&cross(&some_group_values(), &rows), &[vec![Line::Sum]]);
     let of_lengths = cross(&cross(&some_group_values(), &rows[..20]), &[lengths]);
     [of_rows, of_lengths].concat()

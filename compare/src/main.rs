@@ -64,6 +64,7 @@ fn main() -> ExitCode {
         eprintln!("{USAGE}");
         return ExitCode::from(2);
     };
+    guard::name_faults();
     let differ = match task {
         Task::All => {
             let (compared, differ) = parts::compare_all(seed, count);

@@ -86,10 +86,7 @@ impl Ours {
             Line::Sector { places } => self.canonicalize_in_sector(*places),
             Line::Clear => set(|| (self.words, self.coefficients) = (Vec::new(), Vec::new())),
             Line::Row(coefficient) => set(|| self.row(*coefficient)),
-            Line::Sum => {
-                let rows = self.coefficients.len();
-                self.canonicalize_pauli_sum([WORD_BYTES * rows, rows, WORD_BYTES * rows, rows, rows])
-            }
+            Line::Sum => self.canonicalize_pauli_sum(sum_lengths(self.coefficients.len())),
             Line::SumOf { words, coefficients, representatives, sums, counts } => {
                 self.canonicalize_pauli_sum([*words, *coefficients, *representatives, *sums, *counts])
             }
@@ -112,7 +109,7 @@ impl Ours {
         let (word, length, text, values) = (m.lend(&self.word), m.room(1), m.room::<u8>(MAX_SITES), m.room(VALUES));
         let rule = unsafe { gomurin_to_text(self.sites, word.at, word.length, length.at, text.at, values.at) };
         said(rule, values, &[zeros(length), zeros(text)], || {
-            let (text, rest) = text.get().split_at(length.first());
+            let (text, rest) = text.get().split_at(length.first().min(MAX_SITES));
             visible(text) + if rest.iter().all(|&byte| byte == 0) { "" } else { " and more after it" }
         })
     }
@@ -344,21 +341,21 @@ impl Ours {
             let stayed = filled(representatives) && filled(sums) && filled(counts);
             let rows_named = usize::from(rule == 17);
             let refused = said_of(rule, values, values_named(rule) + rows_named, &[zeros(number)], String::new);
-            // Where all lists are empty they are both.
-            return refused
-                + if rule != 25 && stayed {
-                    ", as they were"
-                } else if zero {
-                    ", zeros"
-                } else {
-                    ", changed"
-                };
+            // Empty lists are both as they were and zeros.
+            let lists = match rule {
+                25 if zero => "zeros",
+                1..25 if stayed => "as they were",
+                _ => "changed",
+            };
+            return format!("{refused}, {lists}");
         }
         let number = number.first();
         let words = representatives.get().chunks(WORD_BYTES);
         let all = words.zip(sums.get()).zip(counts.get()).map(|((word, &sum), &count)| (letters(self.group.sites, word), sum, count));
         let after = [zeros(part(representatives, WORD_BYTES * number)), zeros(part(sums, number)), zeros(part(counts, number))];
-        said(rule, values, &[], String::new) + &rows(all.take(number)) + if after == [true; 3] { "" } else { " and more after them" }
+        said(rule, values, &[], String::new)
+            + &rows(number, all.take(number))
+            + if after == [true; 3] { "" } else { " and more after them" }
     }
 
     // ---- the sheet
@@ -444,5 +441,6 @@ fn filled<T: Copy>(lent: Lent<T>) -> bool {
 
 /// A list from a place on.
 fn part<T: Copy>(lent: Lent<T>, from: usize) -> Lent<T> {
+    let from = from.min(lent.length);
     Lent { at: unsafe { lent.at.add(from) }, length: lent.length - from }
 }

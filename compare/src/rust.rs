@@ -81,10 +81,7 @@ impl Rust {
             Line::Sector { places } => self.canonicalize_in_sector(*places),
             Line::Clear => set(|| self.rows.clear()),
             Line::Row(coefficient) => set(|| self.row(*coefficient)),
-            Line::Sum => {
-                let rows = self.rows.len();
-                self.canonicalize_pauli_sum([WORD_BYTES * rows, rows, WORD_BYTES * rows, rows, rows])
-            }
+            Line::Sum => self.canonicalize_pauli_sum(sum_lengths(self.rows.len())),
             Line::SumOf { words, coefficients, representatives, sums, counts } => {
                 self.canonicalize_pauli_sum([*words, *coefficients, *representatives, *sums, *counts])
             }
@@ -270,7 +267,7 @@ impl Rust {
     fn fold(&self, [words, coefficients, representatives, sums, counts]: [usize; 5]) -> Answer {
         let group = self.group.check()?;
         let rows = coefficients;
-        check(22, [words, representatives] != [WORD_BYTES * rows; 2] || [sums, counts] != [rows; 2])?;
+        check(22, [words, coefficients, representatives, sums, counts] != sum_lengths(rows))?;
         check(23, rows > MAX_ROWS)?;
         let mut taken = self.rows.clone();
         taken.resize(rows, (vec![0; WORD_BYTES], 0.0));
@@ -284,7 +281,7 @@ impl Rust {
         merge::canonicalize_pauli_sum(&mut basis, &mut coefficients, group);
         let mut folded: Vec<(Word, f64)> = basis.into_iter().zip(coefficients).collect();
         folded.sort_by_key(|row| row.0);
-        Ok(crate::cases::rows(folded.iter().map(|(word, sum)| (text(word), *sum, counts[word]))))
+        Ok(crate::cases::rows(folded.len(), folded.iter().map(|(word, sum)| (text(word), *sum, counts[word]))))
     }
 }
 
