@@ -48,7 +48,7 @@ pub fn lines() {
 
 /// The table of docs/BENCH.md.
 pub fn table() {
-    println!("| group | sites | order | call | ours: least, median | the Rust: least, median | ratio |");
+    println!("| group | sites | order | call | ours, least | the Rust, least | ratio |");
     println!("|---|---|---|---|---|---|---|");
     measure_all(|m| {
         let (ours, rust) = (m.ours.both(), m.rust.both());
@@ -58,7 +58,7 @@ pub fn table() {
 
 impl Times {
     fn both(&self) -> String {
-        format!("{}, {}", time(self.least), time(self.median))
+        format!("{} (median {})", time(self.least), time(self.median))
     }
 }
 

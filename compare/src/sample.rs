@@ -20,15 +20,15 @@ type Make = fn(&mut Random, Bounds) -> Case;
 const KINDS: [(&str, usize, fn(&mut Random) -> Bounds, Make); 8] = [
     ("words", 500, Bounds::small, words::case),
     ("groups", 500, Bounds::small, groups::case),
-    ("lists", 1500, Bounds::small, groups::faulty_case),
+    ("lists", 1200, Bounds::small, groups::faulty_case),
     ("orbits", 700, Bounds::small, orbits::case),
     ("sectors", 700, Bounds::small, sectors::case),
     ("sums", 300, Bounds::small, sums::case),
-    ("larger orbits", 10, |_| LARGER, orbits::case),
-    ("larger sectors", 10, |_| LARGER, sectors::case),
+    ("larger orbits", 30, |_| LARGER, orbits::case),
+    ("larger sectors", 30, |_| LARGER, sectors::case),
 ];
 
-const LARGER: Bounds = Bounds { sites: MAX_SITES, order: 8192 };
+const LARGER: Bounds = Bounds { sites: MAX_SITES, order: 32_768 };
 
 /// Writes the lines to `stdin` and the Rust's answers to `stdout` in a folder.
 pub fn write(folder: &str) -> io::Result<()> {

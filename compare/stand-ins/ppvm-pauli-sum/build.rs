@@ -1,3 +1,5 @@
+//! Takes the listed sources of the symmetry module.
+
 include!("../listed.rs");
 
 fn main() {

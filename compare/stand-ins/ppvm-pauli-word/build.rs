@@ -1,3 +1,5 @@
+//! Takes the listed source of the word.
+
 include!("../listed.rs");
 
 fn main() {
