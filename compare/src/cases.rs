@@ -61,37 +61,62 @@ impl Lattice {
 /// A line of a case: something handed over, or a question.
 #[derive(Clone)]
 pub enum Line {
-    Group { sites: usize, list: Vec<u32>, orders: Vec<u32> },
+    Group {
+        sites: usize,
+        list: Vec<u32>,
+        orders: Vec<u32>,
+    },
     Lattice(Lattice),
     Set(Place, usize),
     Order,
     Modulus,
     Targets,
-    Counter { index: usize, places: usize },
+    Counter {
+        index: usize,
+        places: usize,
+    },
     Invert(usize),
     Word(Vec<u8>),
-    Bytes { sites: usize, bytes: Vec<u8> },
+    Bytes {
+        sites: usize,
+        bytes: Vec<u8>,
+    },
     Text,
     Weight,
     Compare(Vec<u8>),
     Canonicalize,
     WithIndex,
-    WithShift { places: usize },
-    OrbitList { bytes: usize },
+    WithShift {
+        places: usize,
+    },
+    OrbitList {
+        bytes: usize,
+    },
     Orbit,
     SetIndex(usize),
     SetWalk(Place, usize),
-    SetAt { byte: usize, value: u8 },
+    SetAt {
+        byte: usize,
+        value: u8,
+    },
     Next(usize),
     Modes(Vec<i32>),
     Numerator(Vec<u32>),
-    Table { places: usize },
-    Sector { places: usize },
+    Table {
+        places: usize,
+    },
+    Sector {
+        places: usize,
+    },
     Clear,
     Row(f64),
     Sum,
-    SumOf { words: usize, coefficients: usize, representatives: usize, sums: usize, counts: usize },
-    Sheet { places: usize, text: Vec<u8> },
+    /// A sum with lists of these lengths: words, coefficients, representatives, sums and counts.
+    SumOf([usize; 5]),
+    Sheet {
+        places: usize,
+        text: Vec<u8>,
+    },
 }
 
 pub type Case = Vec<Line>;
@@ -153,9 +178,7 @@ impl Display for Line {
             Line::Row(coefficient) if coefficient.is_nan() => write!(f, "row nan"),
             Line::Row(coefficient) => write!(f, "row {:016x}", coefficient.to_bits()),
             Line::Sum => write!(f, "sum"),
-            Line::SumOf { words, coefficients, representatives, sums, counts } => {
-                write!(f, "sum {words} {coefficients} {representatives} {sums} {counts}")
-            }
+            Line::SumOf(lengths) => write!(f, "sum{}", list(lengths)),
             Line::Sheet { places, text } => write!(f, "sheet_in {places} {}", visible(text)),
         }
     }

@@ -24,8 +24,9 @@ fn table_of(readme: &str) -> String {
     lines.map_while(|line| line.strip_prefix("    ")).map(|line| line.to_string() + "\n").collect()
 }
 
+/// Compiles the program; it stands beside this one.
 fn compile() -> Result<PathBuf, String> {
-    let program = root().join("compare/target/first_table");
+    let program = std::env::current_exe().map_err(|error| error.to_string())?.with_file_name("first_table");
     let mut cc = Command::new("cc");
     cc.args(["-std=c99", "-Wall", "-Wextra", "-Werror", "-I"]).arg(root().join("include"));
     cc.arg(root().join("examples-c/first_table.c")).arg(Path::new(env!("GOMURIN_LIB")).join("libc_api.a"));

@@ -147,7 +147,8 @@ impl Memory {
     /// Whether the call just made left alone what it was to read, and all beside the lists. The places are then free for the next call.
     pub fn untouched(&mut self) -> bool {
         let used = std::mem::take(&mut self.used);
-        self.fences[..used].iter_mut().fold(true, |all, fence| fence.untouched() && all)
+        let untouched: Vec<bool> = self.fences[..used].iter_mut().map(Fence::untouched).collect();
+        !untouched.contains(&false)
     }
 
     fn next(&mut self, bytes: usize) -> &mut Fence {

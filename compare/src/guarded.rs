@@ -8,6 +8,7 @@ use crate::sheet;
 use crate::sizes::*;
 use crate::words::{self, word_bytes};
 
+/// What is good: a torus of 3 by 2 sites and a word on it.
 const SITES: usize = 6;
 const ORDER: usize = 6;
 const GENERATORS: usize = 2;
@@ -151,7 +152,7 @@ fn generator_lists() -> Vec<Case> {
     let (long, identity) = (all[0].clone(), all[9].clone());
     let mut cases = Vec::new();
     for first in &all {
-        cases.extend(lists_of(&[first.clone()]));
+        cases.extend(lists_of(std::slice::from_ref(first)));
         cases.extend(all.iter().flat_map(|second| lists_of(&[first.clone(), second.clone()])));
         cases.extend(lists_of(&[vec![long.clone(); 3], vec![first.clone()]].concat()));
         cases.extend((1..=5).flat_map(|more| lists_of(&[vec![first.clone()], vec![identity.clone(); more]].concat())));
@@ -312,14 +313,7 @@ fn sums_of_lengths(rows: usize) -> Vec<Line> {
             all.push(lengths);
         }
     }
-    let line = |[words, coefficients, representatives, sums, counts]: [usize; 5]| Line::SumOf {
-        words,
-        coefficients,
-        representatives,
-        sums,
-        counts,
-    };
-    all.into_iter().map(line).collect()
+    all.into_iter().map(Line::SumOf).collect()
 }
 
 fn sums() -> Vec<Case> {

@@ -87,9 +87,7 @@ impl Ours {
             Line::Clear => set(|| (self.words, self.coefficients) = (Vec::new(), Vec::new())),
             Line::Row(coefficient) => set(|| self.row(*coefficient)),
             Line::Sum => self.canonicalize_pauli_sum(sum_lengths(self.coefficients.len())),
-            Line::SumOf { words, coefficients, representatives, sums, counts } => {
-                self.canonicalize_pauli_sum([*words, *coefficients, *representatives, *sums, *counts])
-            }
+            Line::SumOf(lengths) => self.canonicalize_pauli_sum(*lengths),
             Line::Sheet { places, text } => self.sheet(*places, text),
         }
     }

@@ -82,9 +82,7 @@ impl Rust {
             Line::Clear => set(|| self.rows.clear()),
             Line::Row(coefficient) => set(|| self.row(*coefficient)),
             Line::Sum => self.canonicalize_pauli_sum(sum_lengths(self.rows.len())),
-            Line::SumOf { words, coefficients, representatives, sums, counts } => {
-                self.canonicalize_pauli_sum([*words, *coefficients, *representatives, *sums, *counts])
-            }
+            Line::SumOf(lengths) => self.canonicalize_pauli_sum(*lengths),
             Line::Sheet { places, text } => sheet::answer(*places, text),
         }
     }
