@@ -3,7 +3,7 @@
 #[rustfmt::skip]
 unsafe extern "C" {
     pub fn gomurin_from_text(text: *const u8, text_length: usize, sites: *mut usize, word: *mut u8, values: *mut usize) -> usize;
-    pub fn gomurin_to_text(n: usize, word: *const u8, word_length: usize, length: *mut usize, text: *mut u8,
+    pub fn gomurin_to_text(n: usize, word: *const u8, word_length: usize, letters: *mut usize, text: *mut u8,
         values: *mut usize) -> usize;
     pub fn gomurin_weight(n: usize, word: *const u8, word_length: usize, weight: *mut usize, values: *mut usize) -> usize;
     pub fn gomurin_compare(n: usize, a: *const u8, a_length: usize, b: *const u8, b_length: usize, order: *mut i32,
@@ -48,7 +48,7 @@ unsafe extern "C" {
     pub fn gomurin_canonicalize_pauli_sum(sites: usize, generators: usize, orders: *const u32, targets: *const u32, words: *const u8,
         words_length: usize, coefficients: *const f64, coefficients_length: usize, representatives: *mut u8, representatives_length: usize,
         sums: *mut f64, sums_length: usize, counts: *mut u32, counts_length: usize, rows: *mut usize, values: *mut usize) -> usize;
-    pub fn gomurin_sheet(input: *const u8, input_length: usize, list: *mut u8, list_length: usize, length: *mut usize,
+    pub fn gomurin_sheet(input: *const u8, input_length: usize, list: *mut u8, list_length: usize, written: *mut usize,
         values: *mut usize) -> usize;
 }
 
