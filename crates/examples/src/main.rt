@@ -1,15 +1,4 @@
-// Runs worked examples of groups and prints what each call comes to; the file `stdout` beside src/ is what it must print.
-mod groups;
-
+// Answers the list of cases in `stdin` beside src/; the file `stdout` there is what it must print.
 fn main() {
-    groups::accepted();
-    groups::counts();
-    groups::targets();
-    groups::orders();
-    groups::pairs();
-    groups::limits();
-    groups::lattices();
-    groups::unequal();
-    groups::indices();
-    groups::values();
+    cases::run();
 }

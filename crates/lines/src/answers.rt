@@ -1,39 +1,25 @@
-// What calls come to: a number, done, or a refusal. Names with `_on` end no line.
+// What calls come to: a number, accepted, or a refusal. Nothing here ends a line.
 use outcome::Number;
 use outcome::Refusal;
 use outcome::Verdict;
 
 pub fn number(n: Number) {
-    number_on(n);
-    crate::text(b"\n");
-}
-
-pub fn number_on(n: Number) {
     match n {
         Number::Value(k) => crate::number(k),
-        Number::Refused(why) => refused_on(why),
+        Number::Refused(why) => refused(why),
     }
 }
 
-pub fn done(d: Verdict) {
-    done_on(d);
-    crate::text(b"\n");
-}
-
-pub fn done_on(d: Verdict) {
-    match d {
-        Verdict::Accepted => crate::text(b"done"),
-        Verdict::Refused(why) => refused_on(why),
+// What is not refused, by the word given for it.
+pub fn verdict(v: Verdict, accepted: &[u8]) {
+    match v {
+        Verdict::Accepted => crate::text(accepted),
+        Verdict::Refused(why) => refused(why),
     }
 }
 
 // A refusal by its number, with the values that it names.
 pub fn refused(why: Refusal) {
-    refused_on(why);
-    crate::text(b"\n");
-}
-
-pub fn refused_on(why: Refusal) {
     crate::text(b"refused ");
     crate::number(outcome::rule_number(why));
     values(why);
@@ -45,7 +31,8 @@ fn values(why: Refusal) {
         | Refusal::PermutationOrderOverflow(a)
         | Refusal::RowBitAboveSites(a)
         | Refusal::NotFinite(a)
-        | Refusal::SumNotFinite(a) => one(a),
+        | Refusal::SumNotFinite(a)
+        | Refusal::NotALetter(a) => one(a),
         Refusal::LengthMismatch(a, b)
         | Refusal::PermutationLength(a, b)
         | Refusal::TargetOutOfRange(a, b)
@@ -55,16 +42,12 @@ fn values(why: Refusal) {
             two(a, b);
             one(c);
         }
-        Refusal::NotALetter(a) => {
-            crate::text(b" at");
-            one(a);
-        }
         _ => {}
     }
 }
 
 fn one(a: usize) {
-    crate::text(b" ");
+    crate::byte(b' ');
     crate::number(a);
 }
 

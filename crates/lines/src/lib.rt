@@ -9,10 +9,26 @@ pub fn text(bytes: &[u8]) {
     io::write_all(STDOUT_FILENO, bytes);
 }
 
+pub fn byte(b: u8) {
+    text(&[b]);
+}
+
 // The first k bytes.
 pub fn first(bytes: &[u8], k: usize) {
     if k <= bytes.len() {
         text(&bytes[..k]);
+    }
+}
+
+// Of the first k bytes the last, at most so many.
+pub fn last(bytes: &[u8], k: usize, most: usize) {
+    if k <= most {
+        first(bytes, k);
+        return;
+    }
+    let from = k - most;
+    if k <= bytes.len() {
+        text(&bytes[from..k]);
     }
 }
 

@@ -1,11 +1,4 @@
-// Runs worked examples of sums and prints what each comes to; the file `stdout` beside src/ is what it must print.
-mod sums;
-
+// Answers the list of cases in `stdin` beside src/; the file `stdout` there is what it must print.
 fn main() {
-    sums::signs();
-    sums::orders();
-    sums::small();
-    sums::words();
-    sums::groups();
-    sums::none();
+    cases::run();
 }

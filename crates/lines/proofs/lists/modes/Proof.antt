@@ -1,46 +1,39 @@
--- `lists::modes` meets its contract, and ends. The loop's invariant: i is at most the list's length.
+-- `lists::modes` ends, and reads inside its list. The loop's invariant: i is at most the list's length.
+use borrow.Author.Needs.{needs}
 use Prim.Native.Nat.{_-_, _≤_}
 use lib.ListN.{length}
-use native.Mathlib.Omega.{arith}
-use borrow.Author.Needs.{needs}
 use Rattle.lines.proofs.lists.modes.Statement.{statement}
 use Rattle.lines.proofs.lists.modes.Tie as tie
 
 abbrev Inv-loop : tie.InvT-loop
-Inv-loop list i₀ t3 i = i ≤ length list
+Inv-loop list i₀ i = i ≤ length list
 
 abbrev μ-loop : tie.MeasureT-loop
-μ-loop list i₀ t3 i = length list - i
-
-none-of-requires : tie.Need-none-of-requires Inv-loop μ-loop
-none-of-requires c κs = search needs
+μ-loop list i₀ i = length list - i
 
 loop-holds : tie.Need-loop-holds Inv-loop μ-loop
-loop-holds c = omega arith
+loop-holds c = search needs
 
-slice-aggregate-text : tie.Need-slice-aggregate-text Inv-loop μ-loop
-slice-aggregate-text c = search needs
-
-text-requires : tie.Need-text-requires Inv-loop μ-loop
-text-requires c κs = search needs
+byte-requires : tie.Need-byte-requires Inv-loop μ-loop
+byte-requires c κs = search needs
 
 mul-signed32 : tie.Need-mul-signed32 Inv-loop μ-loop
-mul-signed32 c = omega arith
+mul-signed32 c = search needs
 
 shared-slice-copy-out-signed32 : tie.Need-shared-slice-copy-out-signed32 Inv-loop μ-loop
-shared-slice-copy-out-signed32 c = omega arith
+shared-slice-copy-out-signed32 c = search needs
 
 signed32-requires : tie.Need-signed32-requires Inv-loop μ-loop
 signed32-requires c κs = search needs
 
 add-i : tie.Need-add-i Inv-loop μ-loop
-add-i c = omega arith
+add-i c = search needs
 
 loop-less : tie.Need-loop-less Inv-loop μ-loop
-loop-less c = omega arith
+loop-less c = search needs
 
 loop-again : tie.Need-loop-again Inv-loop μ-loop
-loop-again c = omega arith
+loop-again c = search needs
 
 returns : tie.Need-returns Inv-loop μ-loop
 returns c = search needs
@@ -51,10 +44,8 @@ modes-spec =
     (tie.spec
     Inv-loop
     μ-loop
-    none-of-requires
     loop-holds
-    slice-aggregate-text
-    text-requires
+    byte-requires
     mul-signed32
     shared-slice-copy-out-signed32
     signed32-requires

@@ -1,34 +1,30 @@
--- `lists::words` meets its contract, and ends. The loop's invariant: at is at most the list's length.
+-- `lists::words` ends, and reads inside its list. The loop's invariant: at is at most the list's length.
+use borrow.Author.Needs.{needs}
 use Prim.Native.Nat.{_-_, _≤_}
 use lib.ListN.{length}
-use native.Mathlib.Omega.{arith}
-use borrow.Author.Needs.{needs}
 use Rattle.lines.proofs.lists.words.Statement.{statement}
 use Rattle.lines.proofs.lists.words.Tie as tie
 
 abbrev Inv-loop : tie.InvT-loop
-Inv-loop n list at₀ t4 at = at ≤ length list
+Inv-loop n list at₀ at = at ≤ length list
 
 abbrev μ-loop : tie.MeasureT-loop
-μ-loop n list at₀ t4 at = length list - at
+μ-loop n list at₀ at = length list - at
 
 loop-holds : tie.Need-loop-holds Inv-loop μ-loop
-loop-holds c = omega arith
+loop-holds c = search needs
 
 sub-loop : tie.Need-sub-loop Inv-loop μ-loop
-sub-loop c = omega arith
+sub-loop c = search needs
 
-slice-aggregate-text : tie.Need-slice-aggregate-text Inv-loop μ-loop
-slice-aggregate-text c = search needs
-
-text-requires : tie.Need-text-requires Inv-loop μ-loop
-text-requires c κs = search needs
+byte-requires : tie.Need-byte-requires Inv-loop μ-loop
+byte-requires c κs = search needs
 
 add-spell : tie.Need-add-spell Inv-loop μ-loop
-add-spell c = omega arith
+add-spell c = search needs
 
 sub-spell : tie.Need-sub-spell Inv-loop μ-loop
-sub-spell c = omega arith
+sub-spell c = search needs
 
 part-spell-start : tie.Need-part-spell-start Inv-loop μ-loop
 part-spell-start c = search needs
@@ -40,13 +36,13 @@ spell-requires : tie.Need-spell-requires Inv-loop μ-loop
 spell-requires c κs = search needs
 
 add-at : tie.Need-add-at Inv-loop μ-loop
-add-at c = omega arith
+add-at c = search needs
 
 loop-less : tie.Need-loop-less Inv-loop μ-loop
-loop-less c = omega arith
+loop-less c = search needs
 
 loop-again : tie.Need-loop-again Inv-loop μ-loop
-loop-again c = omega arith
+loop-again c = search needs
 
 returns : tie.Need-returns Inv-loop μ-loop
 returns c = search needs
@@ -59,8 +55,7 @@ words-spec =
     μ-loop
     loop-holds
     sub-loop
-    slice-aggregate-text
-    text-requires
+    byte-requires
     add-spell
     sub-spell
     part-spell-start

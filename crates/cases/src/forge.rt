@@ -1,0 +1,93 @@
+// Values that no call gives: numbers written into the group, the word and the walk in force.
+use crate::fields;
+use crate::fields::Args;
+use crate::kinds;
+use crate::state::State;
+use crate::state::WORD_ROOM;
+use crate::texts;
+use group::Group;
+use permutation::MAX_DECLARED;
+use permutation::MAX_GENERATORS;
+use permutation::TARGET_PLACES;
+
+// What is written, by the place of its name.
+const SITES: usize = 0;
+
+const GENERATORS: usize = 1;
+
+const ORDER: usize = 2;
+
+const TARGET: usize = 3;
+
+const N: usize = 4;
+
+const LENGTH: usize = 5;
+
+const INDEX: usize = 6;
+
+// ` NAME V` or ` NAME I V`.
+pub fn set(s: State, rest: &[u8]) -> State {
+    let text = texts::after_space(rest);
+    let k = text::read::find(text, b' ');
+    if k < text.len() {
+        let names = b" sites generators order target n length index";
+        let what = kinds::place(&text[0..k], names);
+        return written(s, what, fields::read_args(&text[k..]));
+    }
+    s.other()
+}
+
+fn written(mut s: State, what: usize, args: Args) -> State {
+    let a = args.list[0];
+    let b = args.list[1];
+    if !has_form(what, args.count, a, b) {
+        return s.other();
+    }
+    match what {
+        N => s.n = a,
+        LENGTH => s.length = a,
+        INDEX => s.walk.index = a,
+        _ => {
+            let g = forged(s.group, what, a, b);
+            s.group = g;
+        }
+    }
+    s.set()
+}
+
+// Whether there are as many numbers as the name takes, and they have a place.
+fn has_form(what: usize, count: usize, a: usize, b: usize) -> bool {
+    match what {
+        SITES | GENERATORS | N | INDEX => count == 1,
+        LENGTH => count == 1 && a <= WORD_ROOM,
+        ORDER => count == 2 && a < MAX_GENERATORS && small(b),
+        TARGET => count == 2 && a < TARGET_PLACES && small(b),
+        _ => false,
+    }
+}
+
+fn small(v: usize) -> bool {
+    (v as u64) <= MAX_DECLARED
+}
+
+fn forged(mut g: Group, what: usize, a: usize, b: usize) -> Group {
+    match what {
+        SITES => g.sites = a,
+        GENERATORS => g.generators = a,
+        ORDER => {
+            if a < MAX_GENERATORS {
+                g.orders[a] = narrow(b);
+            }
+        }
+        _ => {
+            if a < TARGET_PLACES {
+                g.targets[a] = narrow(b);
+            }
+        }
+    }
+    g
+}
+
+fn narrow(v: usize) -> u32 {
+    if small(v) { v as u32 } else { 0 }
+}

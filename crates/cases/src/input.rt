@@ -1,0 +1,98 @@
+// Standard input, read in chunks and cut into lines.
+use crate::answer;
+use crate::state;
+use crate::state::ROW_BYTES;
+use crate::state::ROW_ROOM;
+use crate::state::State;
+use crate::texts;
+use libc::STDIN_FILENO;
+
+// The most bytes of a line, and one.
+const LINE_ROOM: usize = 131072;
+
+// What is in force, how much of the next line is read, and whether the input is over.
+struct Reading {
+    state: State,
+    length: usize,
+    over: bool,
+}
+
+// Answers each line of standard input.
+pub fn run() {
+    let mut line = [0u8; LINE_ROOM];
+    let mut words = [0u8; ROW_BYTES];
+    let mut coefficients = [0.0f64; ROW_ROOM];
+    all(&mut line, &mut words, &mut coefficients);
+}
+
+// A proved loop has to end, and nothing says that the input does: it counts its turns down, from a number that no run uses up.
+fn all(line: &mut [u8], words: &mut [u8], coefficients: &mut [f64]) {
+    let mut r = Reading {
+        state: state::nothing(),
+        length: 0,
+        over: false,
+    };
+    let mut turns = u64::MAX;
+    while 0 < turns {
+        r = chunk(r, line, words, coefficients);
+        if r.over {
+            return;
+        }
+        turns -= 1;
+    }
+}
+
+// Reads once, and answers the lines that end there.
+fn chunk(r: Reading, line: &mut [u8], words: &mut [u8], coefficients: &mut [f64]) -> Reading {
+    let mut bytes = io::large_buffer();
+    let got = libc::read(STDIN_FILENO, &mut bytes);
+    if got <= 0 {
+        return over(r, got < 0);
+    }
+    let n = io::count(got, &bytes);
+    take(r, &bytes[..n], line, words, coefficients)
+}
+
+// The input ended, or a read failed. Bytes after the last line end are no line.
+fn over(mut r: Reading, failed: bool) -> Reading {
+    if failed || 0 < r.length {
+        lines::text(b"?\n");
+    }
+    r.over = true;
+    r
+}
+
+fn take(
+    r: Reading,
+    bytes: &[u8],
+    line: &mut [u8],
+    words: &mut [u8],
+    coefficients: &mut [f64],
+) -> Reading {
+    let mut s = r.state;
+    let mut length = r.length;
+    let mut i = 0;
+    while i < bytes.len() {
+        if bytes[i] == b'\n' {
+            s = end(s, line, length, words, coefficients);
+            length = 0;
+        } else {
+            length = texts::put(line, length, bytes[i]);
+        }
+        i += 1;
+    }
+    Reading {
+        state: s,
+        length,
+        over: false,
+    }
+}
+
+// A line ends here.
+fn end(s: State, line: &[u8], length: usize, words: &mut [u8], coefficients: &mut [f64]) -> State {
+    if length < line.len() {
+        return answer::line(s, &line[0..length], words, coefficients);
+    }
+    lines::text(b"?\n");
+    s
+}
