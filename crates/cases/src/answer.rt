@@ -1,4 +1,5 @@
 // The answer to a line, by its kind.
+use crate::counters;
 use crate::fields;
 use crate::fields::Args;
 use crate::forge;
@@ -8,8 +9,8 @@ use crate::orbits;
 use crate::sectors;
 use crate::sheets;
 use crate::state::State;
-use crate::state::WORD_ROOM;
 use crate::sums;
+use crate::texts;
 use crate::words;
 
 // Prints a line for a line.
@@ -48,43 +49,19 @@ fn of_kind(
     coefficients: &mut [f64],
 ) -> State {
     let args = fields::read_args(rest);
-    let bytes = s.bytes;
-    let length = s.length;
     if !kinds::has_form(kind, args.count) {
         return s.other();
     }
-    if length <= WORD_ROOM {
-        return with_word(s, kind, &bytes[0..length], rest, args, words, coefficients);
+    match kind {
+        kinds::GROUP..=kinds::NEXT => put(s, kind, rest, args),
+        kinds::ORDER..=kinds::BESIDE => ask(s, kind, rest, args),
+        kinds::CLEAR..=kinds::SUM_AT => sums::answer(s, kind, rest, args, words, coefficients),
+        _ => s.other(),
     }
-    s
-}
-
-fn with_word(
-    s: State,
-    kind: usize,
-    word: &[u8],
-    rest: &[u8],
-    args: Args,
-    words: &mut [u8],
-    coefficients: &mut [f64],
-) -> State {
-    if kind < kinds::ORDER {
-        return put(s, kind, word, rest, args, words, coefficients);
-    }
-    ask(s, kind, word, rest, args, words, coefficients);
-    s
 }
 
 // The lines that put something in force.
-fn put(
-    s: State,
-    kind: usize,
-    word: &[u8],
-    rest: &[u8],
-    args: Args,
-    words: &mut [u8],
-    coefficients: &mut [f64],
-) -> State {
+fn put(s: State, kind: usize, rest: &[u8], args: Args) -> State {
     match kind {
         kinds::GROUP => groups::read(s, rest),
         kinds::CHAIN..=kinds::TORUS3 => groups::made(s, groups::lattice(kind, args)),
@@ -92,29 +69,33 @@ fn put(
         kinds::WORD => words::read(s, rest),
         kinds::BYTES => words::put(s, rest),
         kinds::MODES => sectors::put(s, rest),
-        kinds::ORBIT => orbits::begin(s, word),
-        kinds::NEXT => orbits::next(s, args.list[0]),
-        _ => sums::put(s, kind, word, rest, args, words, coefficients),
+        kinds::ORBIT => orbits::begin(s),
+        _ => orbits::next(s, args.list[0]),
     }
 }
 
 // The lines that ask.
-fn ask(
-    s: State,
-    kind: usize,
-    word: &[u8],
-    rest: &[u8],
-    args: Args,
-    words: &[u8],
-    coefficients: &[f64],
-) {
+fn ask(s: State, kind: usize, rest: &[u8], args: Args) -> State {
     match kind {
-        kinds::ORDER..=kinds::INVERT => groups::answer(s.group, kind, args),
-        kinds::TEXT..=kinds::COMPARE_TEXT => words::answer(s.n, word, kind, rest),
-        kinds::CANONICALIZE..=kinds::ORBIT_LIST => orbits::answer(s.group, s.n, word, kind, args),
-        kinds::NUMERATOR..=kinds::BESIDE => sectors::answer(s, word, kind, rest, args),
-        kinds::SUM..=kinds::SUM_AT => sums::fold(s, kind, args, words, coefficients),
+        kinds::ORDER..=kinds::TARGETS => groups::answer(s.group, kind, args.list[0]),
         kinds::SHEET..=kinds::SHEET_IN => sheets::answer(kind, rest),
-        _ => lines::byte(b'?'),
+        _ => of_word(s, kind, rest, args),
+    }
+    s
+}
+
+fn of_word(s: State, kind: usize, rest: &[u8], args: Args) {
+    let bytes = s.bytes;
+    with_word(s, texts::front(&bytes, s.length), kind, rest, args);
+}
+
+fn with_word(s: State, word: &[u8], kind: usize, rest: &[u8], args: Args) {
+    match kind {
+        kinds::TEXT..=kinds::COMPARE_TEXT => words::answer(s.n, word, kind, rest),
+        kinds::CANONICALIZE..=kinds::ORBIT_LIST => {
+            orbits::answer(s.group, s.n, word, kind, args.list[0]);
+        }
+        kinds::NUMERATOR..=kinds::TABLE => sectors::answer(s, kind, rest, args.list[0]),
+        _ => counters::answer(s, word, kind, args),
     }
 }

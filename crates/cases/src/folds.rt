@@ -7,84 +7,68 @@ use lines::lists;
 use outcome::Number;
 use pauli_word::WORD_BYTES;
 
-// The lengths of the lists of a call.
+// The lengths of the lists of a call, and the output rows that are printed, from one to before another, with n letters a word. To 0: the rows that
+// there are.
 pub struct Sizes {
+    pub n: usize,
     pub words: usize,
     pub rows: usize,
     pub representatives: usize,
     pub sums: usize,
     pub counts: usize,
+    pub from: usize,
+    pub to: usize,
 }
 
-// Folds a sum in the fronts of lists, the output lists all nines. Of these the rows from one to before another are printed; to 0, the rows that there are.
-pub fn fold(
-    g: Group,
-    n: usize,
-    words: &[u8],
-    coefficients: &[f64],
-    sizes: Sizes,
-    from: usize,
-    to: usize,
-) {
+// Folds a sum in the fronts of lists.
+pub fn fold(g: Group, sizes: Sizes, words: &[u8], coefficients: &[f64]) {
     let bytes = sizes.words;
     let rows = sizes.rows;
-    if words.len() < bytes || coefficients.len() < rows {
-        lines::byte(b'?');
-    } else {
-        fold_into(
-            g,
-            n,
-            &words[0..bytes],
-            &coefficients[0..rows],
-            sizes,
-            from,
-            to,
-        );
+    if words.len() < bytes {
+        return lines::byte(b'?');
     }
+    if coefficients.len() < rows {
+        return lines::byte(b'?');
+    }
+    fold_into(g, sizes, &words[0..bytes], &coefficients[0..rows]);
 }
 
-fn fold_into(
-    g: Group,
-    n: usize,
-    words: &[u8],
-    coefficients: &[f64],
-    sizes: Sizes,
-    from: usize,
-    to: usize,
-) {
+// The output lists are all nines before.
+fn fold_into(g: Group, sizes: Sizes, words: &[u8], coefficients: &[f64]) {
     let mut representatives = [9u8; ROW_BYTES];
     let mut sums = [9.0f64; ROW_ROOM];
     let mut counts = [9u32; ROW_ROOM];
     let bytes = sizes.representatives;
     let values = sizes.sums;
     let numbers = sizes.counts;
-    if ROW_BYTES < bytes || ROW_ROOM < values || ROW_ROOM < numbers {
-        lines::byte(b'?');
-        return;
+    if ROW_BYTES < bytes {
+        return lines::byte(b'?');
+    }
+    if ROW_ROOM < values {
+        return lines::byte(b'?');
+    }
+    if ROW_ROOM < numbers {
+        return lines::byte(b'?');
     }
     call(
         g,
-        n,
+        sizes,
         words,
         coefficients,
         &mut representatives[0..bytes],
         &mut sums[0..values],
         &mut counts[0..numbers],
-        from,
-        to,
     );
 }
 
 fn call(
     g: Group,
-    n: usize,
+    sizes: Sizes,
     words: &[u8],
     coefficients: &[f64],
     representatives: &mut [u8],
     sums: &mut [f64],
     counts: &mut [u32],
-    from: usize,
-    to: usize,
 ) {
     let answer = merge::canonicalize_pauli_sum(
         g,
@@ -94,12 +78,23 @@ fn call(
         sums,
         counts,
     );
+    told(answer, sizes, representatives, sums, counts);
+}
+
+fn told(answer: Number, sizes: Sizes, representatives: &[u8], sums: &[f64], counts: &[u32]) {
     answers::number(answer);
     match answer {
         Number::Refused(_) => after(representatives, sums, counts),
         Number::Value(k) => {
             lines::text(b" rows:");
-            rows(n, from, end(k, to), representatives, sums, counts);
+            rows(
+                sizes.n,
+                sizes.from,
+                end(k, sizes.to),
+                representatives,
+                sums,
+                counts,
+            );
         }
     }
 }
@@ -132,12 +127,8 @@ fn end(rows: usize, to: usize) -> usize {
 fn rows(n: usize, from: usize, to: usize, representatives: &[u8], sums: &[f64], counts: &[u32]) {
     let mut k = from;
     while k < to {
-        lines::byte(b' ');
         word(n, k, representatives);
-        lines::byte(b' ');
-        sum(k, sums);
-        lines::byte(b' ');
-        count(k, counts);
+        number(k, sums, counts);
         k += 1;
     }
 }
@@ -147,19 +138,18 @@ fn word(n: usize, k: usize, representatives: &[u8]) {
         let at = WORD_BYTES * k;
         let end = at + WORD_BYTES;
         if end <= representatives.len() {
+            lines::byte(b' ');
             lines::spell(n, &representatives[at..end]);
         }
     }
 }
 
-fn sum(k: usize, sums: &[f64]) {
-    if k < sums.len() {
+// The sum and the count of a row.
+fn number(k: usize, sums: &[f64], counts: &[u32]) {
+    if k < sums.len() && k < counts.len() {
+        lines::byte(b' ');
         lines::float(sums[k]);
-    }
-}
-
-fn count(k: usize, counts: &[u32]) {
-    if k < counts.len() {
+        lines::byte(b' ');
         lines::number32(counts[k]);
     }
 }

@@ -6,7 +6,6 @@ use crate::state::State;
 use crate::state::WORD_ROOM;
 use crate::texts;
 use group::Group;
-use permutation::MAX_DECLARED;
 use permutation::MAX_GENERATORS;
 use permutation::TARGET_PLACES;
 
@@ -24,6 +23,9 @@ const N: usize = 4;
 const LENGTH: usize = 5;
 
 const INDEX: usize = 6;
+
+// The largest order or target.
+const LARGEST: usize = 4294967295;
 
 // ` NAME V` or ` NAME I V`.
 pub fn set(s: State, rest: &[u8]) -> State {
@@ -60,14 +62,10 @@ fn has_form(what: usize, count: usize, a: usize, b: usize) -> bool {
     match what {
         SITES | GENERATORS | N | INDEX => count == 1,
         LENGTH => count == 1 && a <= WORD_ROOM,
-        ORDER => count == 2 && a < MAX_GENERATORS && small(b),
-        TARGET => count == 2 && a < TARGET_PLACES && small(b),
+        ORDER => count == 2 && a < MAX_GENERATORS && b <= LARGEST,
+        TARGET => count == 2 && a < TARGET_PLACES && b <= LARGEST,
         _ => false,
     }
-}
-
-fn small(v: usize) -> bool {
-    (v as u64) <= MAX_DECLARED
 }
 
 fn forged(mut g: Group, what: usize, a: usize, b: usize) -> Group {
@@ -89,5 +87,5 @@ fn forged(mut g: Group, what: usize, a: usize, b: usize) -> Group {
 }
 
 fn narrow(v: usize) -> u32 {
-    if small(v) { v as u32 } else { 0 }
+    if v <= LARGEST { v as u32 } else { 0 }
 }

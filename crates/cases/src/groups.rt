@@ -4,13 +4,11 @@ use crate::fields::Args;
 use crate::fields::Count;
 use crate::fields::Value;
 use crate::kinds::CHAIN;
-use crate::kinds::COUNTER;
 use crate::kinds::INVERT;
 use crate::kinds::LADDER;
 use crate::kinds::MODULUS;
 use crate::kinds::ORDER;
 use crate::kinds::TORUS2;
-use crate::state::MODE_ROOM;
 use crate::state::State;
 use group::Group;
 use group::Made;
@@ -91,32 +89,13 @@ fn with_orders(s: State, sites: usize, list: &[u32], text: &[u8]) -> State {
 }
 
 // What the calls on a group answer, and the group itself.
-pub fn answer(g: Group, kind: usize, args: Args) {
-    let a = args.list[0];
-    let b = args.list[1];
+pub fn answer(g: Group, kind: usize, index: usize) {
     match kind {
         ORDER => answers::number(group::order(g)),
         MODULUS => answers::number(group::phase_modulus(g)),
-        INVERT => answers::number(group::invert_index(g, a)),
-        COUNTER => counter(g, a, b),
+        INVERT => answers::number(group::invert_index(g, index)),
         _ => targets(g),
     }
-}
-
-// The counter of an index, into a list of k places.
-fn counter(g: Group, index: usize, k: usize) {
-    let mut list = [9u32; MODE_ROOM];
-    if k <= MODE_ROOM {
-        counter_in(g, index, &mut list[0..k]);
-    } else {
-        lines::byte(b'?');
-    }
-}
-
-fn counter_in(g: Group, index: usize, list: &mut [u32]) {
-    answers::verdict(group::counter_from_index(g, index, list), b"done");
-    lines::byte(b':');
-    lists::digits(list);
 }
 
 // Where each generator sends the sites, of a value that has places for them.

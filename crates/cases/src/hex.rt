@@ -1,4 +1,5 @@
 // Hexadecimal: bytes by two digits each, floats by the sixteen digits of their bits.
+ghost use mathlib.Core.Path.{_≡_};
 use crate::fields::Count;
 
 // What a byte that is no digit counts as: the number of the digits.
@@ -93,7 +94,9 @@ fn number(text: &[u8]) -> u64 {
     v
 }
 
-fn wide(digit: u8) -> u64 {
+fn wide(digit: u8) -> u64
+    ensures { λ r. ⌜ r ≡ digit ⌝ }
+{
     digit as u64
 }
 

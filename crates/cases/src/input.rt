@@ -1,4 +1,6 @@
 // Standard input, read in chunks and cut into lines.
+ghost use Prim.Native.Nat.{_≤_};
+ghost use lib.ListN.{length};
 use crate::answer;
 use crate::state;
 use crate::state::ROW_BYTES;
@@ -62,6 +64,7 @@ fn over(mut r: Reading, failed: bool) -> Reading {
     r
 }
 
+// Answers the lines that end in these bytes, and keeps what stands after them.
 fn take(
     r: Reading,
     bytes: &[u8],
@@ -70,26 +73,45 @@ fn take(
     coefficients: &mut [f64],
 ) -> Reading {
     let mut s = r.state;
-    let mut length = r.length;
-    let mut i = 0;
-    while i < bytes.len() {
-        if bytes[i] == b'\n' {
-            s = end(s, line, length, words, coefficients);
-            length = 0;
-        } else {
-            length = texts::put(line, length, bytes[i]);
-        }
-        i += 1;
+    let mut held = r.length;
+    let mut at = 0;
+    let mut end = line_end(bytes, 0);
+    while end < bytes.len() {
+        let next = end + 1;
+        held = texts::append(&bytes[at..end], line, held, b'\n');
+        s = ended(s, line, held, words, coefficients);
+        held = 0;
+        at = next;
+        end = line_end(bytes, next);
     }
     Reading {
         state: s,
-        length,
+        length: texts::append(&bytes[at..end], line, held, b'\n'),
         over: false,
     }
 }
 
-// A line ends here.
-fn end(s: State, line: &[u8], length: usize, words: &mut [u8], coefficients: &mut [f64]) -> State {
+// Where the line ends that has a byte at a place, or the bytes' end.
+fn line_end(bytes: &[u8], at: usize) -> usize
+    requires { ⌜ at ≤ length (now bytes) ⌝ }
+    ensures { λ r. ⌜ (at ≤ r) × (r ≤ length (now (bytes .entry))) ⌝ }
+{
+    let rest = &bytes[at..];
+    let k = text::read::find(rest, b'\n');
+    if k < rest.len() {
+        return at + k;
+    }
+    bytes.len()
+}
+
+// A line that fills its list is too long.
+fn ended(
+    s: State,
+    line: &[u8],
+    length: usize,
+    words: &mut [u8],
+    coefficients: &mut [f64],
+) -> State {
     if length < line.len() {
         return answer::line(s, &line[0..length], words, coefficients);
     }

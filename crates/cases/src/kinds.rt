@@ -1,4 +1,4 @@
-// The kinds of lines, by their names: those that put something in force, and from ORDER on those that ask.
+// The kinds of lines, by their names: those that put something in force, from ORDER on those that ask, and from CLEAR on those of sums.
 use crate::fields;
 
 pub const GROUP: usize = 0;
@@ -23,64 +23,64 @@ pub const ORBIT: usize = 9;
 
 pub const NEXT: usize = 10;
 
-pub const CLEAR: usize = 11;
+pub const ORDER: usize = 11;
 
-pub const ROW: usize = 12;
+pub const MODULUS: usize = 12;
 
-pub const ROWS: usize = 13;
+pub const INVERT: usize = 13;
 
-pub const NUMBERED: usize = 14;
+pub const TARGETS: usize = 14;
 
-pub const ORDER: usize = 15;
+pub const SHEET: usize = 15;
 
-pub const MODULUS: usize = 16;
+pub const SHEET_END: usize = 16;
 
-pub const TARGETS: usize = 17;
+pub const SHEET_IN: usize = 17;
 
-pub const COUNTER: usize = 18;
+pub const TEXT: usize = 18;
 
-pub const INVERT: usize = 19;
+pub const WEIGHT: usize = 19;
 
-pub const TEXT: usize = 20;
+pub const COMPARE: usize = 20;
 
-pub const WEIGHT: usize = 21;
+pub const COMPARE_TEXT: usize = 21;
 
-pub const COMPARE: usize = 22;
+pub const CANONICALIZE: usize = 22;
 
-pub const COMPARE_TEXT: usize = 23;
+pub const WITH_INDEX: usize = 23;
 
-pub const CANONICALIZE: usize = 24;
+pub const ORBIT_LIST: usize = 24;
 
-pub const WITH_INDEX: usize = 25;
+pub const NUMERATOR: usize = 25;
 
-pub const WITH_SHIFT: usize = 26;
+pub const TABLE: usize = 26;
 
-pub const ORBIT_LIST: usize = 27;
+pub const COUNTER: usize = 27;
 
-pub const NUMERATOR: usize = 28;
+pub const WITH_SHIFT: usize = 28;
 
-pub const TABLE: usize = 29;
+pub const SECTOR: usize = 29;
 
-pub const SECTOR: usize = 30;
+pub const BESIDE: usize = 30;
 
-pub const BESIDE: usize = 31;
+pub const CLEAR: usize = 31;
 
-pub const SUM: usize = 32;
+pub const ROW: usize = 32;
 
-pub const SUM_AT: usize = 33;
+pub const ROWS: usize = 33;
 
-pub const SHEET: usize = 34;
+pub const NUMBERED: usize = 34;
 
-pub const SHEET_END: usize = 35;
+pub const SUM: usize = 35;
 
-pub const SHEET_IN: usize = 36;
+pub const SUM_AT: usize = 36;
 
 // The kind of a name; a number above all kinds where there is none.
 pub fn of(name: &[u8]) -> usize {
-    let names = b" group chain ladder torus2 torus3 set word bytes modes orbit next clear row rows \
-        numbered order modulus targets counter invert text weight compare compare_text \
-        canonicalize with_index with_shift orbit_list numerator table sector beside sum \
-        sum_at sheet sheet_end sheet_in";
+    let names = b" group chain ladder torus2 torus3 set word bytes modes orbit next order modulus \
+        invert targets sheet sheet_end sheet_in text weight compare compare_text \
+        canonicalize with_index orbit_list numerator table counter with_shift sector beside \
+        clear row rows numbered sum sum_at";
     place(name, names)
 }
 

@@ -1,5 +1,6 @@
 // Cases, a line each.
 mod answer;
+mod counters;
 mod fields;
 mod folds;
 mod forge;

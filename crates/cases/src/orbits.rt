@@ -1,10 +1,8 @@
 // Orbits: least words, orbit lists, walks.
-use crate::fields::Args;
 use crate::kinds::CANONICALIZE;
 use crate::kinds::WITH_INDEX;
-use crate::kinds::WITH_SHIFT;
-use crate::state::MODE_ROOM;
 use crate::state::State;
+use crate::texts;
 use group::Group;
 use lines::answers;
 use lines::lists;
@@ -16,13 +14,11 @@ use outcome::Verdict;
 // The most bytes of an orbit list.
 const LIST_ROOM: usize = 65536;
 
-// What the calls on a group and a word answer.
-pub fn answer(g: Group, n: usize, word: &[u8], kind: usize, args: Args) {
-    let k = args.list[0];
+// What the calls on a group and a word answer that fill no counter list.
+pub fn answer(g: Group, n: usize, word: &[u8], kind: usize, k: usize) {
     match kind {
         CANONICALIZE => canonicalize(g, n, word),
         WITH_INDEX => with_index(g, n, word),
-        WITH_SHIFT => with_shift(g, n, word, k),
         _ => orbit_list(g, n, word, k),
     }
 }
@@ -35,7 +31,7 @@ fn canonicalize(g: Group, n: usize, word: &[u8]) {
 }
 
 // The word of an answer, or the refusal.
-fn spelled(answer: Verdict, n: usize, word: &[u8]) {
+pub fn spelled(answer: Verdict, n: usize, word: &[u8]) {
     match answer {
         Verdict::Accepted => lines::spell(n, word),
         Verdict::Refused(why) => answers::refused(why),
@@ -51,24 +47,6 @@ fn with_index(g: Group, n: usize, word: &[u8]) {
         lines::byte(b' ');
     }
     answers::number(answer);
-}
-
-fn with_shift(g: Group, n: usize, word: &[u8], k: usize) {
-    let mut counter = [9u32; MODE_ROOM];
-    if k <= MODE_ROOM {
-        shift_in(g, n, word, &mut counter[0..k]);
-    } else {
-        lines::byte(b'?');
-    }
-}
-
-fn shift_in(g: Group, n: usize, word: &[u8], counter: &mut [u32]) {
-    let found = orbit::canonicalize_with_shift(g, n, word, counter);
-    let answer = found.answer;
-    let least = found.word;
-    spelled(answer, n, &least);
-    lines::byte(b':');
-    lists::digits(counter);
 }
 
 fn orbit_list(g: Group, n: usize, word: &[u8], k: usize) {
@@ -99,7 +77,12 @@ fn after(list: &[u8]) {
 }
 
 // The walk handed back is in force, also beside a refusal.
-pub fn begin(mut s: State, word: &[u8]) -> State {
+pub fn begin(s: State) -> State {
+    let bytes = s.bytes;
+    begun(s, texts::front(&bytes, s.length))
+}
+
+fn begun(mut s: State, word: &[u8]) -> State {
     let begun = orbit::orbit(s.group, s.n, word);
     let answer = begun.answer;
     let walk = begun.walk;

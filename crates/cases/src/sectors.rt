@@ -1,16 +1,12 @@
-// Momentum sectors: modes, phase numerators, and the words that modes keep.
+// Modes and their phase numerators.
 use crate::fields;
-use crate::fields::Args;
 use crate::fields::Count;
 use crate::kinds::NUMERATOR;
-use crate::kinds::SECTOR;
-use crate::kinds::TABLE;
 use crate::state::MODE_ROOM;
 use crate::state::State;
 use group::Group;
 use lines::answers;
 use lines::lists;
-use momentum::Sector;
 
 // The most places of a list of numerators.
 const TABLE_ROOM: usize = 4096;
@@ -26,29 +22,24 @@ pub fn put(mut s: State, rest: &[u8]) -> State {
     s.set()
 }
 
-// What the calls with modes answer.
-pub fn answer(s: State, word: &[u8], kind: usize, rest: &[u8], args: Args) {
+// What the calls with modes and no word answer.
+pub fn answer(s: State, kind: usize, rest: &[u8], k: usize) {
     let modes = s.modes;
-    let count = s.mode_count;
-    if count <= MODE_ROOM {
-        by_modes(
-            s.group,
-            s.n,
-            word,
-            &modes[0..count],
-            kind,
-            rest,
-            args.list[0],
-        );
-    }
+    by_modes(s.group, front(&modes, s.mode_count), kind, rest, k);
 }
 
-fn by_modes(g: Group, n: usize, word: &[u8], modes: &[i32], kind: usize, rest: &[u8], k: usize) {
+// The first k modes, or all where there are fewer.
+pub fn front(modes: &[i32], k: usize) -> &[i32] {
+    if k <= modes.len() {
+        return &modes[0..k];
+    }
+    modes
+}
+
+fn by_modes(g: Group, modes: &[i32], kind: usize, rest: &[u8], k: usize) {
     match kind {
         NUMERATOR => numerator(g, modes, rest),
-        TABLE => table(g, modes, k),
-        SECTOR => sector(g, n, word, modes, k),
-        _ => beside(g, n, word, modes, k),
+        _ => table(g, modes, k),
     }
 }
 
@@ -77,67 +68,4 @@ fn table_in(g: Group, modes: &[i32], list: &mut [usize]) {
     answers::verdict(momentum::character_table(g, modes, list), b"done");
     lines::byte(b':');
     lists::numbers(list);
-}
-
-fn sector(g: Group, n: usize, word: &[u8], modes: &[i32], k: usize) {
-    let mut counter = [9u32; MODE_ROOM];
-    if k <= MODE_ROOM {
-        sector_in(g, n, word, modes, &mut counter[0..k]);
-    } else {
-        lines::byte(b'?');
-    }
-}
-
-fn sector_in(g: Group, n: usize, word: &[u8], modes: &[i32], counter: &mut [u32]) {
-    let found = momentum::canonicalize_in_sector(g, n, word, modes, counter);
-    let answer = found.answer;
-    let least = found.word;
-    told(answer, n, &least);
-    lines::byte(b':');
-    lists::digits(counter);
-}
-
-fn told(answer: Sector, n: usize, least: &[u8]) {
-    match answer {
-        Sector::Kept(size) => {
-            lines::text(b"kept ");
-            lines::number(size);
-            lines::byte(b' ');
-            lines::spell(n, least);
-        }
-        Sector::Dropped => lines::text(b"dropped"),
-        Sector::Refused(why) => answers::refused(why),
-    }
-}
-
-// The words that stand beside the answers of the four calls on a word, with counter lists of k places.
-fn beside(g: Group, n: usize, word: &[u8], modes: &[i32], k: usize) {
-    let mut counter = [9u32; MODE_ROOM];
-    if k <= MODE_ROOM {
-        beside_in(g, n, word, modes, &mut counter[0..k]);
-    } else {
-        lines::byte(b'?');
-    }
-}
-
-fn beside_in(g: Group, n: usize, word: &[u8], modes: &[i32], counter: &mut [u32]) {
-    let least = orbit::canonicalize(g, n, word).word;
-    letters(n, &least);
-    lines::byte(b' ');
-    let indexed = orbit::canonicalize_with_index(g, n, word).word;
-    letters(n, &indexed);
-    lines::byte(b' ');
-    let shifted = orbit::canonicalize_with_shift(g, n, word, counter).word;
-    letters(n, &shifted);
-    lines::byte(b' ');
-    let kept = momentum::canonicalize_in_sector(g, n, word, modes, counter).word;
-    letters(n, &kept);
-}
-
-fn letters(n: usize, word: &[u8]) {
-    if lists::bytes_are(word, 0) {
-        lines::text(b"zeros");
-    } else {
-        lines::spell(n, word);
-    }
 }

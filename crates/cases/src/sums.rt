@@ -7,6 +7,7 @@ use crate::folds::Sizes;
 use crate::hex;
 use crate::hex::Float;
 use crate::kinds::CLEAR;
+use crate::kinds::NUMBERED;
 use crate::kinds::ROW;
 use crate::kinds::ROWS;
 use crate::kinds::SUM;
@@ -16,11 +17,9 @@ use crate::state::State;
 use crate::texts;
 use pauli_word::WORD_BYTES;
 
-// The lines that change the rows.
-pub fn put(
+pub fn answer(
     s: State,
     kind: usize,
-    word: &[u8],
     rest: &[u8],
     args: Args,
     words: &mut [u8],
@@ -28,9 +27,10 @@ pub fn put(
 ) -> State {
     match kind {
         CLEAR => clear(s, words, coefficients).set(),
-        ROW => append(s, word, 1, rest, words, coefficients),
-        ROWS => append_many(s, word, rest, words, coefficients),
-        _ => numbered(s, args.list[0], words, coefficients),
+        ROW => append(s, 1, rest, words, coefficients),
+        ROWS => append_many(s, rest, words, coefficients),
+        NUMBERED => numbered(s, args.list[0], words, coefficients),
+        _ => fold(s, kind, args, words, coefficients),
     }
 }
 
@@ -40,10 +40,21 @@ fn clear(mut s: State, words: &mut [u8], coefficients: &mut [f64]) -> State {
     s
 }
 
+// ` K HEX`.
+fn append_many(s: State, rest: &[u8], words: &mut [u8], coefficients: &mut [f64]) -> State {
+    if rest.len() == 0 {
+        return s.other();
+    }
+    let end = fields::field_end(rest, 0);
+    let Value::Number(k) = fields::number(fields::field(rest, 0, end)) else {
+        return s.other();
+    };
+    append(s, k as usize, &rest[end..], words, coefficients)
+}
+
 // ` HEX`: so many rows of the word with this coefficient.
 fn append(
-    mut s: State,
-    word: &[u8],
+    s: State,
     count: usize,
     rest: &[u8],
     words: &mut [u8],
@@ -59,28 +70,22 @@ fn append(
     if ROW_ROOM - from < count {
         return s.other();
     }
-    let to = from + count;
-    rows::fill(words, coefficients, from, to, word, x);
-    s.rows = to;
-    s.set()
+    filled(s, from + count, x, words, coefficients)
 }
 
-// ` K HEX`.
-fn append_many(
-    s: State,
-    word: &[u8],
-    rest: &[u8],
+// The rows up to these many, the new ones of the word with this coefficient.
+fn filled(
+    mut s: State,
+    to: usize,
+    coefficient: f64,
     words: &mut [u8],
     coefficients: &mut [f64],
 ) -> State {
-    if rest.len() == 0 {
-        return s.other();
-    }
-    let end = fields::field_end(rest, 0);
-    let Value::Number(k) = fields::number(fields::field(rest, 0, end)) else {
-        return s.other();
-    };
-    append(s, word, k as usize, &rest[end..], words, coefficients)
+    let bytes = s.bytes;
+    let word = texts::front(&bytes, s.length);
+    rows::fill(words, coefficients, s.rows, to, word, coefficient);
+    s.rows = to;
+    s.set()
 }
 
 // The rows are these, so many, and no others.
@@ -94,42 +99,39 @@ fn numbered(s: State, k: usize, words: &mut [u8], coefficients: &mut [f64]) -> S
     t.set()
 }
 
-// The lines that fold the rows.
-pub fn fold(s: State, kind: usize, args: Args, words: &[u8], coefficients: &[f64]) {
-    let a = args.list[0];
-    let b = args.list[1];
-    if kind != SUM {
-        folds::fold(s.group, s.n, words, coefficients, whole(s.rows), a, b);
-    } else if args.count == 0 {
-        folds::fold(s.group, s.n, words, coefficients, whole(s.rows), 0, 0);
-    } else {
-        folds::fold(s.group, s.n, words, coefficients, given(args), 0, 0);
-    }
+fn fold(s: State, kind: usize, args: Args, words: &[u8], coefficients: &[f64]) -> State {
+    folds::fold(s.group, sizes(s.n, s.rows, kind, args), words, coefficients);
+    s
 }
 
-// Lists of as many rows.
-fn whole(rows: usize) -> Sizes {
+// The lengths of the lists, and the rows that are printed.
+fn sizes(n: usize, rows: usize, kind: usize, args: Args) -> Sizes {
+    let list = args.list;
+    if kind == SUM && args.count == 5 {
+        return Sizes {
+            n,
+            words: list[0],
+            rows: list[1],
+            representatives: list[2],
+            sums: list[3],
+            counts: list[4],
+            from: 0,
+            to: 0,
+        };
+    }
     let bytes = if rows <= ROW_ROOM {
         WORD_BYTES * rows
     } else {
         0
     };
     Sizes {
+        n,
         words: bytes,
         rows,
         representatives: bytes,
         sums: rows,
         counts: rows,
-    }
-}
-
-fn given(args: Args) -> Sizes {
-    let list = args.list;
-    Sizes {
-        words: list[0],
-        rows: list[1],
-        representatives: list[2],
-        sums: list[3],
-        counts: list[4],
+        from: list[0],
+        to: list[1],
     }
 }

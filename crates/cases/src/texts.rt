@@ -31,6 +31,14 @@ pub fn write(bytes: &[u8], list: &mut [u8]) {
     }
 }
 
+// The first k bytes, or all where there are fewer.
+pub fn front(bytes: &[u8], k: usize) -> &[u8] {
+    if k <= bytes.len() {
+        return &bytes[0..k];
+    }
+    bytes
+}
+
 // The text without the space that it begins with.
 pub fn after_space(text: &[u8]) -> &[u8] {
     if 0 < text.len() {
@@ -41,15 +49,15 @@ pub fn after_space(text: &[u8]) -> &[u8] {
 
 // Writes what a text stands for at the front of a list; its length.
 pub fn expand(text: &[u8], list: &mut [u8]) -> usize {
-    let mut length = 0;
+    let mut place = 0;
     let mut at = 0;
     while at < text.len() {
         let rest = &text[at..];
         let k = width(rest);
-        length = expand_piece(&rest[0..k], list, length);
+        place = expand_piece(&rest[0..k], list, place);
         at += k;
     }
-    length
+    place
 }
 
 // How many bytes the first piece of a text has: a repeat, an escape, or a byte.
@@ -98,7 +106,7 @@ fn is_repeat(text: &[u8]) -> bool {
 // Writes what a piece stands for.
 fn expand_piece(piece: &[u8], list: &mut [u8], at: usize) -> usize {
     if piece.len() <= 1 {
-        return append(piece, list, at);
+        return append(piece, list, at, b'|');
     }
     if piece[0] == b'\\' {
         return put(list, at, hex::byte(byte(piece, 1), byte(piece, 2)));
@@ -121,18 +129,18 @@ fn append_times(text: &[u8], list: &mut [u8], at: usize, count: u64) -> usize {
     let mut place = at;
     let mut i = 0;
     while i < count {
-        place = append(text, list, place);
+        place = append(text, list, place, b'|');
         i += 1;
     }
     place
 }
 
-// Writes bytes, with line ends for bars.
-fn append(text: &[u8], list: &mut [u8], at: usize) -> usize {
+// Writes a text, with line ends for the bars in it.
+pub fn append(text: &[u8], list: &mut [u8], at: usize, bar: u8) -> usize {
     let mut place = at;
     let mut i = 0;
     while i < text.len() {
-        place = put(list, place, exchanged(text[i], b'|', b'\n'));
+        place = put(list, place, exchanged(text[i], bar, b'\n'));
         i += 1;
     }
     place

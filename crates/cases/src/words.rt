@@ -20,9 +20,10 @@ pub fn read(mut s: State, rest: &[u8]) -> State {
     let found = pauli_word::from_text(texts::after_space(rest));
     let answer = found.answer;
     let word = found.word;
+    let bytes = widened(&word);
     answers::number(answer);
     s.n = value(answer);
-    s.bytes = widened(&word);
+    s.bytes = bytes;
     s.length = WORD_BYTES;
     s
 }
