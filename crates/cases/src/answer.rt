@@ -1,17 +1,18 @@
 // The answer to a line, by its kind.
-use crate::counters;
-use crate::fields;
-use crate::fields::Args;
 use crate::forge;
-use crate::groups;
-use crate::kinds;
-use crate::orbits;
-use crate::sectors;
-use crate::sheets;
 use crate::state::State;
 use crate::sums;
-use crate::texts;
-use crate::words;
+use case_calls::groups;
+use case_calls::orbits;
+use case_calls::sectors;
+use case_calls::words;
+use case_calls::words::Word;
+use case_rows::sheets;
+use case_text::fields;
+use case_text::fields::Args;
+use case_text::kinds;
+use case_text::texts;
+use group::Group;
 
 // Prints a line for a line.
 pub fn line(s: State, line: &[u8], words: &mut [u8], coefficients: &mut [f64]) -> State {
@@ -54,48 +55,80 @@ fn of_kind(
     }
     match kind {
         kinds::GROUP..=kinds::NEXT => put(s, kind, rest, args),
-        kinds::ORDER..=kinds::BESIDE => ask(s, kind, rest, args),
+        kinds::ORDER..=kinds::BESIDE => {
+            ask(s, kind, rest, args);
+            s
+        }
+        kinds::SHEET..=kinds::SHEET_IN => {
+            sheets::answer(kind, rest);
+            s
+        }
         kinds::CLEAR..=kinds::SUM_AT => sums::answer(s, kind, rest, args, words, coefficients),
         _ => s.other(),
     }
 }
 
 // The lines that put something in force.
-fn put(s: State, kind: usize, rest: &[u8], args: Args) -> State {
+fn put(mut s: State, kind: usize, rest: &[u8], args: Args) -> State {
     match kind {
-        kinds::GROUP => groups::read(s, rest),
-        kinds::CHAIN..=kinds::TORUS3 => groups::made(s, groups::lattice(kind, args)),
         kinds::SET => forge::set(s, rest),
-        kinds::WORD => words::read(s, rest),
-        kinds::BYTES => words::put(s, rest),
-        kinds::MODES => sectors::put(s, rest),
-        kinds::ORBIT => orbits::begin(s),
-        _ => orbits::next(s, args.list[0]),
+        kinds::GROUP..=kinds::TORUS3 => {
+            let g = grouped(s.group, kind, rest, args);
+            s.group = g;
+            s
+        }
+        kinds::WORD..=kinds::BYTES => {
+            let w = worded(s.word, kind, rest);
+            s.word = w;
+            s
+        }
+        kinds::MODES => {
+            let m = sectors::put(s.modes, rest);
+            s.modes = m;
+            s
+        }
+        _ => walked(s, kind, args.list[0]),
     }
 }
 
-// The lines that ask.
-fn ask(s: State, kind: usize, rest: &[u8], args: Args) -> State {
-    match kind {
-        kinds::ORDER..=kinds::TARGETS => groups::answer(s.group, kind, args.list[0]),
-        kinds::SHEET..=kinds::SHEET_IN => sheets::answer(kind, rest),
-        _ => of_word(s, kind, rest, args),
+fn grouped(before: Group, kind: usize, rest: &[u8], args: Args) -> Group {
+    if kind == kinds::GROUP {
+        groups::read(before, rest)
+    } else {
+        groups::made(groups::lattice(kind, args))
     }
+}
+
+fn worded(before: Word, kind: usize, rest: &[u8]) -> Word {
+    if kind == kinds::WORD {
+        words::read(rest)
+    } else {
+        words::put(before, rest)
+    }
+}
+
+fn walked(mut s: State, kind: usize, count: usize) -> State {
+    let bytes = s.word.bytes;
+    let walk = if kind == kinds::ORBIT {
+        orbits::begin(s.group, s.word.n, texts::front(&bytes, s.word.length))
+    } else {
+        orbits::steps(s.walk, s.word.n, count)
+    };
+    s.walk = walk;
     s
 }
 
-fn of_word(s: State, kind: usize, rest: &[u8], args: Args) {
-    let bytes = s.bytes;
-    with_word(s, texts::front(&bytes, s.length), kind, rest, args);
-}
-
-fn with_word(s: State, word: &[u8], kind: usize, rest: &[u8], args: Args) {
-    match kind {
-        kinds::TEXT..=kinds::COMPARE_TEXT => words::answer(s.n, word, kind, rest),
-        kinds::CANONICALIZE..=kinds::ORBIT_LIST => {
-            orbits::answer(s.group, s.n, word, kind, args.list[0]);
-        }
-        kinds::NUMERATOR..=kinds::TABLE => sectors::answer(s, kind, rest, args.list[0]),
-        _ => counters::answer(s, word, kind, args),
-    }
+// The lines that ask.
+fn ask(s: State, kind: usize, rest: &[u8], args: Args) {
+    let bytes = s.word.bytes;
+    let modes = s.modes.list;
+    case_calls::answer(
+        s.group,
+        s.word.n,
+        texts::front(&bytes, s.word.length),
+        sectors::front(&modes, s.modes.count),
+        kind,
+        rest,
+        args,
+    );
 }

@@ -1,10 +1,11 @@
 // Values that no call gives: numbers written into the group, the word and the walk in force.
-use crate::fields;
-use crate::fields::Args;
-use crate::kinds;
 use crate::state::State;
-use crate::state::WORD_ROOM;
-use crate::texts;
+use case_calls::words::WORD_ROOM;
+use case_calls::words::Word;
+use case_text::fields;
+use case_text::fields::Args;
+use case_text::kinds;
+use case_text::texts;
 use group::Group;
 use permutation::MAX_GENERATORS;
 use permutation::TARGET_PLACES;
@@ -46,8 +47,10 @@ fn written(mut s: State, what: usize, args: Args) -> State {
         return s.other();
     }
     match what {
-        N => s.n = a,
-        LENGTH => s.length = a,
+        N | LENGTH => {
+            let w = forged_word(s.word, what, a);
+            s.word = w;
+        }
         INDEX => s.walk.index = a,
         _ => {
             let g = forged(s.group, what, a, b);
@@ -66,6 +69,15 @@ fn has_form(what: usize, count: usize, a: usize, b: usize) -> bool {
         TARGET => count == 2 && a < TARGET_PLACES && b <= LARGEST,
         _ => false,
     }
+}
+
+fn forged_word(mut w: Word, what: usize, a: usize) -> Word {
+    if what == N {
+        w.n = a;
+    } else {
+        w.length = a;
+    }
+    w
 }
 
 fn forged(mut g: Group, what: usize, a: usize, b: usize) -> Group {

@@ -3,10 +3,10 @@ ghost use Prim.Native.Nat.{_≤_};
 ghost use lib.ListN.{length};
 use crate::answer;
 use crate::state;
-use crate::state::ROW_BYTES;
-use crate::state::ROW_ROOM;
 use crate::state::State;
-use crate::texts;
+use case_rows::ROW_BYTES;
+use case_rows::ROW_ROOM;
+use case_text::texts;
 use libc::STDIN_FILENO;
 
 // The most bytes of a line, and one.

@@ -1,31 +1,18 @@
 // What is in force between lines.
+use case_calls::sectors::MODE_ROOM;
+use case_calls::sectors::Modes;
+use case_calls::words::WORD_ROOM;
+use case_calls::words::Word;
 use group::Group;
 use orbit::Walk;
 use pauli_word::WORD_BYTES;
 use permutation::MAX_GENERATORS;
 use permutation::TARGET_PLACES;
-use row_lists::MAX_ROWS;
-
-// The most bytes of a word.
-pub const WORD_ROOM: usize = WORD_BYTES + 16;
-
-// The most modes, and the most places of a counter list.
-pub const MODE_ROOM: usize = 2 * MAX_GENERATORS;
-
-// The most rows of a sum, and the bytes of their words.
-pub const ROW_ROOM: usize = MAX_ROWS + 4;
-
-pub const ROW_BYTES: usize = ROW_ROOM * WORD_BYTES;
 
 pub struct State {
     pub group: Group,
-    // The word: its site count, and its bytes, the first `length` of them.
-    pub n: usize,
-    pub bytes: [u8; WORD_ROOM],
-    pub length: usize,
-    // The modes: the first `mode_count` of these.
-    pub modes: [i32; MODE_ROOM],
-    pub mode_count: usize,
+    pub word: Word,
+    pub modes: Modes,
     pub walk: Walk,
     // How many rows the sum has; they stand in lists beside the state.
     pub rows: usize,
@@ -39,6 +26,15 @@ pub fn nothing() -> State {
         orders: [0u32; MAX_GENERATORS],
         targets: [0u32; TARGET_PLACES],
     };
+    let word = Word {
+        n: 0,
+        bytes: [0u8; WORD_ROOM],
+        length: 0,
+    };
+    let modes = Modes {
+        list: [0i32; MODE_ROOM],
+        count: 0,
+    };
     let walk = Walk {
         group,
         word: [0u8; WORD_BYTES],
@@ -46,11 +42,8 @@ pub fn nothing() -> State {
     };
     State {
         group,
-        n: 0,
-        bytes: [0u8; WORD_ROOM],
-        length: 0,
-        modes: [0i32; MODE_ROOM],
-        mode_count: 0,
+        word,
+        modes,
         walk,
         rows: 0,
     }

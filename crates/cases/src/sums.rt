@@ -1,20 +1,20 @@
 // Sums: their rows are put together, and folded.
-use crate::fields;
-use crate::fields::Args;
-use crate::fields::Value;
-use crate::folds;
-use crate::folds::Sizes;
-use crate::hex;
-use crate::hex::Float;
-use crate::kinds::CLEAR;
-use crate::kinds::NUMBERED;
-use crate::kinds::ROW;
-use crate::kinds::ROWS;
-use crate::kinds::SUM;
-use crate::rows;
-use crate::state::ROW_ROOM;
 use crate::state::State;
-use crate::texts;
+use case_rows::ROW_ROOM;
+use case_rows::folds;
+use case_rows::folds::Sizes;
+use case_rows::rows;
+use case_text::fields;
+use case_text::fields::Args;
+use case_text::fields::Value;
+use case_text::hex;
+use case_text::hex::Float;
+use case_text::kinds::CLEAR;
+use case_text::kinds::NUMBERED;
+use case_text::kinds::ROW;
+use case_text::kinds::ROWS;
+use case_text::kinds::SUM;
+use case_text::texts;
 use pauli_word::WORD_BYTES;
 
 pub fn answer(
@@ -81,8 +81,8 @@ fn filled(
     words: &mut [u8],
     coefficients: &mut [f64],
 ) -> State {
-    let bytes = s.bytes;
-    let word = texts::front(&bytes, s.length);
+    let bytes = s.word.bytes;
+    let word = texts::front(&bytes, s.word.length);
     rows::fill(words, coefficients, s.rows, to, word, coefficient);
     s.rows = to;
     s.set()
@@ -100,7 +100,12 @@ fn numbered(s: State, k: usize, words: &mut [u8], coefficients: &mut [f64]) -> S
 }
 
 fn fold(s: State, kind: usize, args: Args, words: &[u8], coefficients: &[f64]) -> State {
-    folds::fold(s.group, sizes(s.n, s.rows, kind, args), words, coefficients);
+    folds::fold(
+        s.group,
+        sizes(s.word.n, s.rows, kind, args),
+        words,
+        coefficients,
+    );
     s
 }
 

@@ -20,16 +20,14 @@ pub fn first(bytes: &[u8], k: usize) {
     }
 }
 
-// Of the first k bytes the last, at most so many.
-pub fn last(bytes: &[u8], k: usize, most: usize) {
-    if k <= most {
-        first(bytes, k);
+// The last bytes, at most k.
+pub fn last(bytes: &[u8], k: usize) {
+    if bytes.len() <= k {
+        text(bytes);
         return;
     }
-    let from = k - most;
-    if k <= bytes.len() {
-        text(&bytes[from..k]);
-    }
+    let from = bytes.len() - k;
+    text(&bytes[from..]);
 }
 
 pub fn number(n: usize) {

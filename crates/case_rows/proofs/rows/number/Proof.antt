@@ -1,0 +1,64 @@
+-- `rows::number` ends. The loop's invariant: the lists' lengths stay.
+use borrow.Author.Needs.{needs}
+use Prim.Native.Nat.{_-_, _≤_}
+use lib.ListN.{length}
+use mathlib.Core.Path.{_≡_}
+use Rattle.case_rows.proofs.rows.number.Statement.{statement}
+use Rattle.case_rows.proofs.rows.number.Tie as tie
+
+abbrev Inv-loop : tie.InvT-loop
+Inv-loop words₀ coefficients₀ count row₀ words coefficients row = (row ≤ count) × (length words ≡ length words₀) × (length coefficients ≡ length coefficients₀)
+
+abbrev μ-loop : tie.MeasureT-loop
+μ-loop words₀ coefficients₀ count row₀ words coefficients row = count - row
+
+loop-holds : tie.Need-loop-holds Inv-loop μ-loop
+loop-holds c = search needs
+
+numbered-requires : tie.Need-numbered-requires Inv-loop μ-loop
+numbered-requires c κs = search needs
+
+slice-aggregate-put : tie.Need-slice-aggregate-put Inv-loop μ-loop
+slice-aggregate-put c = search needs
+
+float-requires : tie.Need-float-requires Inv-loop μ-loop
+float-requires c κs = search needs
+
+put-requires : tie.Need-put-requires Inv-loop μ-loop
+put-requires c κs = search needs
+
+add-row : tie.Need-add-row Inv-loop μ-loop
+add-row c = search needs
+
+loop-less : tie.Need-loop-less Inv-loop μ-loop
+loop-less c = search needs
+
+loop-again : tie.Need-loop-again Inv-loop μ-loop
+loop-again c = search needs
+
+same-length : tie.Need-same-length Inv-loop μ-loop
+same-length c = search needs
+
+same-length-2 : tie.Need-same-length-2 Inv-loop μ-loop
+same-length-2 c = search needs
+
+returns : tie.Need-returns Inv-loop μ-loop
+returns c = search needs
+
+pub number-spec : {M : Type 1} → statement M
+number-spec =
+    tie.close
+    (tie.spec
+    Inv-loop
+    μ-loop
+    loop-holds
+    numbered-requires
+    slice-aggregate-put
+    float-requires
+    put-requires
+    add-row
+    loop-less
+    loop-again
+    same-length
+    same-length-2
+    returns)

@@ -1,0 +1,12 @@
+// The calls that lines of cases name and that print rows: sums and sheets.
+pub mod folds;
+pub mod rows;
+pub mod sheets;
+
+use pauli_word::WORD_BYTES;
+use row_lists::MAX_ROWS;
+
+// The most rows of a sum, and the bytes of their words.
+pub const ROW_ROOM: usize = MAX_ROWS + 4;
+
+pub const ROW_BYTES: usize = ROW_ROOM * WORD_BYTES;

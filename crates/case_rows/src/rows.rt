@@ -1,0 +1,61 @@
+// The rows of a sum: their words in one list, their coefficients in another.
+use crate::ROW_ROOM;
+use case_text::texts;
+use pauli_word::WORD_BYTES;
+
+// The values of a byte.
+const BYTE_VALUES: usize = 256;
+
+// Writes a row.
+fn put(words: &mut [u8], coefficients: &mut [f64], row: usize, word: &[u8], coefficient: f64) {
+    if ROW_ROOM <= row {
+        return;
+    }
+    let at = WORD_BYTES * row;
+    let end = at + WORD_BYTES;
+    if words.len() < end {
+        return;
+    }
+    if coefficients.len() <= row {
+        return;
+    }
+    texts::write(word, &mut words[at..end]);
+    coefficients[row] = coefficient;
+}
+
+// Writes equal rows, from one row to before another.
+pub fn fill(
+    words: &mut [u8],
+    coefficients: &mut [f64],
+    from: usize,
+    to: usize,
+    word: &[u8],
+    coefficient: f64,
+) {
+    let mut row = from;
+    while row < to {
+        put(words, coefficients, row, word, coefficient);
+        row += 1;
+    }
+}
+
+// Writes rows 0, 1, ..: the binary digits of the row's number as X, the lowest at site 0, and the number as the coefficient.
+pub fn number(words: &mut [u8], coefficients: &mut [f64], count: usize) {
+    let mut row = 0;
+    while row < count {
+        let word = numbered(row);
+        put(words, coefficients, row, &word, float(row));
+        row += 1;
+    }
+}
+
+fn numbered(row: usize) -> [u8; WORD_BYTES] {
+    let mut word = [0u8; WORD_BYTES];
+    word[0] = (row % BYTE_VALUES) as u8;
+    word[1] = (row / BYTE_VALUES % BYTE_VALUES) as u8;
+    word
+}
+
+fn float(row: usize) -> f64 {
+    std::num::nearest_u64_to_f64(row as u64)
+}

@@ -1,0 +1,117 @@
+// The kinds of lines, by their names: those that put something in force, from ORDER on those that ask,
+// from SHEET on the sheets, and from CLEAR on the sums.
+use crate::fields;
+
+pub const GROUP: usize = 0;
+
+pub const CHAIN: usize = 1;
+
+pub const LADDER: usize = 2;
+
+pub const TORUS2: usize = 3;
+
+pub const TORUS3: usize = 4;
+
+pub const SET: usize = 5;
+
+pub const WORD: usize = 6;
+
+pub const BYTES: usize = 7;
+
+pub const MODES: usize = 8;
+
+pub const ORBIT: usize = 9;
+
+pub const NEXT: usize = 10;
+
+pub const ORDER: usize = 11;
+
+pub const MODULUS: usize = 12;
+
+pub const INVERT: usize = 13;
+
+pub const TARGETS: usize = 14;
+
+pub const TEXT: usize = 15;
+
+pub const WEIGHT: usize = 16;
+
+pub const COMPARE: usize = 17;
+
+pub const COMPARE_TEXT: usize = 18;
+
+pub const CANONICALIZE: usize = 19;
+
+pub const WITH_INDEX: usize = 20;
+
+pub const ORBIT_LIST: usize = 21;
+
+pub const NUMERATOR: usize = 22;
+
+pub const TABLE: usize = 23;
+
+pub const COUNTER: usize = 24;
+
+pub const WITH_SHIFT: usize = 25;
+
+pub const SECTOR: usize = 26;
+
+pub const BESIDE: usize = 27;
+
+pub const SHEET: usize = 28;
+
+pub const SHEET_END: usize = 29;
+
+pub const SHEET_IN: usize = 30;
+
+pub const CLEAR: usize = 31;
+
+pub const ROW: usize = 32;
+
+pub const ROWS: usize = 33;
+
+pub const NUMBERED: usize = 34;
+
+pub const SUM: usize = 35;
+
+pub const SUM_AT: usize = 36;
+
+// The kind of a name; a number above all kinds where there is none.
+pub fn of(name: &[u8]) -> usize {
+    let names = b" group chain ladder torus2 torus3 set word bytes modes orbit next order modulus \
+        invert targets text weight compare compare_text canonicalize with_index orbit_list \
+        numerator table counter with_shift sector beside sheet sheet_end sheet_in clear row \
+        rows numbered sum sum_at";
+    place(name, names)
+}
+
+// The place of a name among names that have a space before each.
+pub fn place(name: &[u8], names: &[u8]) -> usize {
+    let mut k = 0;
+    let mut at = 0;
+    while at < names.len() {
+        let end = fields::field_end(names, at);
+        if text::read::same(name, fields::field(names, at, end)) {
+            return k;
+        }
+        k += 1;
+        at = end;
+    }
+    k
+}
+
+// Whether a line of a kind may have so many numbers after its name.
+pub fn has_form(kind: usize, count: usize) -> bool {
+    match kind {
+        ORBIT | CLEAR | ORDER | MODULUS | TARGETS | TEXT | WEIGHT | CANONICALIZE | WITH_INDEX => {
+            count == 0
+        }
+        CHAIN | NEXT | NUMBERED | INVERT | WITH_SHIFT | ORBIT_LIST | TABLE | SECTOR | BESIDE => {
+            count == 1
+        }
+        LADDER | TORUS2 | COUNTER | SUM_AT => count == 2,
+        TORUS3 => count == 3,
+        SUM => count == 0 || count == 5,
+        _ => true,
+    }
+}
