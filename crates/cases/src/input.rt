@@ -78,8 +78,7 @@ fn take(
     let mut end = line_end(bytes, 0);
     while end < bytes.len() {
         let next = end + 1;
-        held = texts::append(&bytes[at..end], line, held, b'\n');
-        s = ended(s, line, held, words, coefficients);
+        s = ended(s, &bytes[at..end], line, held, words, coefficients);
         held = 0;
         at = next;
         end = line_end(bytes, next);
@@ -104,14 +103,16 @@ fn line_end(bytes: &[u8], at: usize) -> usize
     bytes.len()
 }
 
-// A line that fills its list is too long.
+// The line that ends with these bytes. One that fills its list is too long.
 fn ended(
     s: State,
-    line: &[u8],
-    length: usize,
+    bytes: &[u8],
+    line: &mut [u8],
+    held: usize,
     words: &mut [u8],
     coefficients: &mut [f64],
 ) -> State {
+    let length = texts::append(bytes, line, held, b'\n');
     if length < line.len() {
         return answer::line(s, &line[0..length], words, coefficients);
     }

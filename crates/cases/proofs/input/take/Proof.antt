@@ -21,17 +21,14 @@ loop-holds c = search needs
 add-next : tie.Need-add-next Inv-loop μ-loop
 add-next c = search needs
 
-sub-append : tie.Need-sub-append Inv-loop μ-loop
-sub-append c = search needs
+sub-ended : tie.Need-sub-ended Inv-loop μ-loop
+sub-ended c = search needs
 
-part-append-start : tie.Need-part-append-start Inv-loop μ-loop
-part-append-start c = search needs
+part-ended-start : tie.Need-part-ended-start Inv-loop μ-loop
+part-ended-start c = search needs
 
-part-append-end : tie.Need-part-append-end Inv-loop μ-loop
-part-append-end c = search needs
-
-append-requires : tie.Need-append-requires Inv-loop μ-loop
-append-requires c κs = search needs
+part-ended-end : tie.Need-part-ended-end Inv-loop μ-loop
+part-ended-end c = search needs
 
 ended-requires : tie.Need-ended-requires Inv-loop μ-loop
 ended-requires c κs = search needs
@@ -45,17 +42,17 @@ loop-less c = search needs
 loop-again : tie.Need-loop-again Inv-loop μ-loop
 loop-again c = search needs
 
-sub-append-2 : tie.Need-sub-append-2 Inv-loop μ-loop
-sub-append-2 c = search needs
+sub-append : tie.Need-sub-append Inv-loop μ-loop
+sub-append c = search needs
 
-part-append-start-2 : tie.Need-part-append-start-2 Inv-loop μ-loop
-part-append-start-2 c = search needs
+part-append-start : tie.Need-part-append-start Inv-loop μ-loop
+part-append-start c = search needs
 
-part-append-end-2 : tie.Need-part-append-end-2 Inv-loop μ-loop
-part-append-end-2 c = search needs
+part-append-end : tie.Need-part-append-end Inv-loop μ-loop
+part-append-end c = search needs
 
-append-requires-2 : tie.Need-append-requires-2 Inv-loop μ-loop
-append-requires-2 c κs = search needs
+append-requires : tie.Need-append-requires Inv-loop μ-loop
+append-requires c κs = search needs
 
 same-length : tie.Need-same-length Inv-loop μ-loop
 same-length c = search needs
@@ -78,18 +75,17 @@ take-spec =
     line-end-requires
     loop-holds
     add-next
-    sub-append
-    part-append-start
-    part-append-end
-    append-requires
+    sub-ended
+    part-ended-start
+    part-ended-end
     ended-requires
     line-end-requires-2
     loop-less
     loop-again
-    sub-append-2
-    part-append-start-2
-    part-append-end-2
-    append-requires-2
+    sub-append
+    part-append-start
+    part-append-end
+    append-requires
     same-length
     same-length-2
     same-length-3
