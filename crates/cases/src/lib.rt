@@ -1,4 +1,62 @@
-// Cases, a line each.
+// Cases: reads lines from standard input, makes the call that each names, and prints one line for each.
+//
+// A line ends with byte 10, its fields are parted by one space, the first is its name. In force are a group, a word (a site count n and at most
+// WORD_ROOM bytes), at most MODE_ROOM modes, a walk, and the rows of a sum, at most ROW_ROOM; all is empty and zero at first. Numbers are decimal, of
+// 64 bits, targets, orders and digits of 32, modes signed 32; HEX is hexadecimal. Below, REFUSED is `refused N` with ` v` for each value that rule N
+// names; LETTERS is a word by `to_text` at the n in force; a list is printed with a space before each member. Lent lists are all nines before.
+//
+// | line                            | does                                                      | prints                                             |
+// |---------------------------------|-----------------------------------------------------------|----------------------------------------------------|
+// | nothing, or `#` and any text    | nothing                                                   | itself                                             |
+// | `group N t t .. / o o ..`       | try_from_generators; the group handed back is in force    | `accepted` or REFUSED                              |
+// | `chain a`, `ladder a b`,        | the lattice, likewise                                     | likewise                                           |
+// | `torus2 a b`, `torus3 a b c`    |                                                           |                                                    |
+// | `set sites V`, `generators V`,  | writes into the group value: forging                      | `set`                                              |
+// | `set order I V`, `target I V`   |                                                           |                                                    |
+// | `set n V`, `set length V`       | writes the word's n; cuts its bytes, or adds zeros        | `set`                                              |
+// | `set index V`                   | writes the walk's index                                   | `set`                                              |
+// | `order`, `modulus`, `invert I`  | order, phase_modulus, invert_index                        | the number or REFUSED                              |
+// | `targets`                       | nothing                                                   | `/` and its targets for each generator             |
+// | `counter I K`                   | counter_from_index into K places                          | `done:` or `REFUSED:`, the list                    |
+// | `word TEXT`                     | from_text; the word is in force, n 0 beside a refusal     | n or REFUSED                                       |
+// | `bytes N HEX`                   | nothing: n and these bytes are in force                   | `set`                                              |
+// | `text`, `weight`                | to_text, weight                                           | LETTERS or the number, or REFUSED                  |
+// | `compare HEX`                   | compare, with these bytes                                 | `less`, `same`, `greater` or REFUSED               |
+// | `compare_text TEXT`             | the same with the word of a text                          | likewise                                           |
+// | `canonicalize`                  | canonicalize                                              | LETTERS or REFUSED                                 |
+// | `with_index`                    | canonicalize_with_index                                   | `LETTERS index` or REFUSED                         |
+// | `with_shift K`                  | canonicalize_with_shift into K places                     | `LETTERS:` or `REFUSED:`, the list                 |
+// | `orbit_list L`                  | orbit_list into L bytes                                   | `done:` and the words; REFUSED, `, as it was` or   |
+// |                                 |                                                           | `, changed`                                        |
+// | `orbit`                         | orbit; the walk handed back is in force                   | `begun` or REFUSED                                 |
+// | `next K`                        | K steps of the walk                                       | parted by `; `: `I LETTERS`, `finished`, REFUSED   |
+// | `modes k k ..`                  | nothing: these are in force                               | `set`                                              |
+// | `numerator d d ..`              | character_numerator                                       | the number or REFUSED                              |
+// | `table L`                       | character_table into L places                             | `done:` or `REFUSED:`, the list                    |
+// | `sector K`                      | canonicalize_in_sector into K places                      | `kept SIZE LETTERS:`, `dropped:` or `REFUSED:`,    |
+// |                                 |                                                           | the list                                           |
+// | `beside K`                      | canonicalize, with_index, with_shift and in_sector, the   | for each the word beside its answer: `zeros` or    |
+// |                                 | last two into K places                                    | LETTERS                                            |
+// | `clear`                         | nothing: no rows                                          | `set`                                              |
+// | `row HEX`, `rows K HEX`         | nothing: the word, cut or filled up to WORD_BYTES, with   | `set`                                              |
+// |                                 | the float of these bits, or `nan`, is a row more, or K    |                                                    |
+// | `numbered K`                    | nothing: K rows, each its number, in binary digits as X   | `set`                                              |
+// |                                 | from site 0 on, and as a float                            |                                                    |
+// | `sum`                           | canonicalize_pauli_sum                                    | `N rows:` and ` LETTERS HEX COUNT` for each; or    |
+// |                                 |                                                           | REFUSED and `, as they were`, `, zeros` or         |
+// |                                 |                                                           | `, changed`                                        |
+// | `sum W R P S C`                 | the same with lists of these lengths: bytes of words,     | likewise                                           |
+// |                                 | coefficients, bytes of representatives, sums, counts      |                                                    |
+// | `sum_at A B`                    | as `sum`                                                  | of the lists the rows A to B - 1, zeros too        |
+// | `sheet TEXT`                    | sheet_text; in TEXT `|` is byte 10, `\HH` a byte in       | what the sheet prints, `|` for byte 10             |
+// |                                 | hexadecimal, `{K:TEXT}` K times TEXT                      |                                                    |
+// | `sheet_end TEXT`                | the same                                                  | the lengths of the sheet and of what it prints,    |
+// |                                 |                                                           | and the last bytes of that                         |
+// | `sheet_in L TEXT`               | the same into a list of L dots                            | `table LENGTH:`, `REFUSED at line LINE, LENGTH:`   |
+// |                                 |                                                           | or `refused 21:`, and the list                     |
+// | any other                       | nothing                                                   | `?`                                                |
+//
+// A line too long, a last line without its end and an input that cannot be read print `?` too.
 mod answer;
 mod forge;
 mod input;
