@@ -1,4 +1,0 @@
-// Answers the list of cases in `stdin` beside src/; the file `stdout` there is what it must print.
-fn main() {
-    cases::run();
-}
