@@ -1,7 +1,8 @@
 // The calls that lines of cases name and that print rows: sums and sheets.
-pub mod folds;
-pub mod rows;
+mod folds;
+mod rows;
 pub mod sheets;
+pub mod sums;
 
 use pauli_word::WORD_BYTES;
 use row_lists::MAX_ROWS;

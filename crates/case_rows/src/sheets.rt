@@ -3,6 +3,7 @@ use case_text::fields;
 use case_text::fields::Value;
 use case_text::kinds::SHEET;
 use case_text::kinds::SHEET_END;
+use case_text::kinds::SHEET_IN;
 use case_text::texts;
 use lines::answers;
 use outcome::Refusal;
@@ -19,25 +20,45 @@ const LIST_ROOM: usize = 512;
 const LAST: usize = 24;
 
 pub fn answer(kind: usize, rest: &[u8]) {
-    match kind {
-        SHEET => sheet(texts::after_space(rest), true),
-        SHEET_END => sheet(texts::after_space(rest), false),
-        _ => in_list(rest),
+    if kind == SHEET_IN {
+        in_list(rest);
+    } else {
+        sheet(kind, 0, texts::after_space(rest));
     }
 }
 
-fn sheet(text: &[u8], whole: bool) {
+// ` L TEXT`: into a list of L bytes.
+fn in_list(rest: &[u8]) {
+    if rest.len() == 0 {
+        return lines::byte(b'?');
+    }
+    let end = fields::field_end(rest, 0);
+    match fields::number(fields::field(rest, 0, end)) {
+        Value::Number(k) => sheet(SHEET_IN, k as usize, texts::after_space(&rest[end..])),
+        Value::Other => lines::byte(b'?'),
+    }
+}
+
+fn sheet(kind: usize, k: usize, text: &[u8]) {
     let mut input = [0u8; SHEET_ROOM];
     let length = texts::expand(text, &mut input);
     if length < SHEET_ROOM {
-        print(&input[0..length], whole);
+        print(kind, k, &input[0..length]);
     } else {
         lines::byte(b'?');
     }
 }
 
+fn print(kind: usize, k: usize, input: &[u8]) {
+    match kind {
+        SHEET => print_all(input, true),
+        SHEET_END => print_all(input, false),
+        _ => in_places(k, input),
+    }
+}
+
 // What a sheet prints, whole or its end.
-fn print(input: &[u8], whole: bool) {
+fn print_all(input: &[u8], whole: bool) {
     let mut table = [0u8; MAX_TABLE];
     print_table(input, &mut table, whole);
 }
@@ -74,33 +95,10 @@ fn end(table: &[u8], bytes: usize) {
     lines::last(table, LAST);
 }
 
-// ` L TEXT`: into a list of L bytes.
-fn in_list(rest: &[u8]) {
-    if rest.len() == 0 {
-        lines::byte(b'?');
-        return;
-    }
-    let end = fields::field_end(rest, 0);
-    match fields::number(fields::field(rest, 0, end)) {
-        Value::Number(k) => in_places(k as usize, texts::after_space(&rest[end..])),
-        Value::Other => lines::byte(b'?'),
-    }
-}
-
-fn in_places(k: usize, text: &[u8]) {
+fn in_places(k: usize, input: &[u8]) {
     let mut list = [b'.'; LIST_ROOM];
     if k <= LIST_ROOM {
-        expand_in(text, &mut list[0..k]);
-    } else {
-        lines::byte(b'?');
-    }
-}
-
-fn expand_in(text: &[u8], list: &mut [u8]) {
-    let mut input = [0u8; SHEET_ROOM];
-    let length = texts::expand(text, &mut input);
-    if length < SHEET_ROOM {
-        print_in(&input[0..length], list);
+        print_in(input, &mut list[0..k]);
     } else {
         lines::byte(b'?');
     }

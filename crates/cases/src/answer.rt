@@ -1,13 +1,13 @@
 // The answer to a line, by its kind.
 use crate::forge;
 use crate::state::State;
-use crate::sums;
 use case_calls::groups;
 use case_calls::orbits;
 use case_calls::sectors;
 use case_calls::words;
 use case_calls::words::Word;
 use case_rows::sheets;
+use case_rows::sums;
 use case_text::fields;
 use case_text::fields::Args;
 use case_text::kinds;
@@ -63,7 +63,7 @@ fn of_kind(
             sheets::answer(kind, rest);
             s
         }
-        kinds::CLEAR..=kinds::SUM_AT => sums::answer(s, kind, rest, args, words, coefficients),
+        kinds::CLEAR..=kinds::SUM_AT => summed(s, kind, rest, args, words, coefficients),
         _ => s.other(),
     }
 }
@@ -131,4 +131,23 @@ fn ask(s: State, kind: usize, rest: &[u8], args: Args) {
         rest,
         args,
     );
+}
+
+// The lines of sums.
+fn summed(
+    mut s: State,
+    kind: usize,
+    rest: &[u8],
+    args: Args,
+    words: &mut [u8],
+    coefficients: &mut [f64],
+) -> State {
+    let bytes = s.word.bytes;
+    let word = texts::front(&bytes, s.word.length);
+    if kind < kinds::SUM {
+        s.rows = sums::put(s.rows, word, kind, rest, args.list[0], words, coefficients);
+    } else {
+        sums::fold(s.group, s.word.n, s.rows, kind, args, words, coefficients);
+    }
+    s
 }
