@@ -8,9 +8,10 @@ use orbit::Step;
 use orbit::Walk;
 use outcome::Number;
 use outcome::Verdict;
+use pauli_word::WORD_BYTES;
 
 // The most bytes of an orbit list.
-const LIST_ROOM: usize = 65536;
+const LIST_ROOM: usize = 1024 * WORD_BYTES;
 
 // What the calls on a group and a word answer that fill no counter list.
 pub fn answer(g: Group, n: usize, word: &[u8], kind: usize, k: usize) {

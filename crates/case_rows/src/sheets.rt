@@ -12,7 +12,7 @@ use sheet_text::MAX_TABLE;
 use sheet_text::Printed;
 
 // The most bytes of a sheet, and one.
-const SHEET_ROOM: usize = 2 * MAX_SHEET;
+pub const SHEET_ROOM: usize = 2 * MAX_SHEET;
 
 // The most bytes of a lent list, and how many bytes of a table `sheet_end` prints.
 const LIST_ROOM: usize = 512;

@@ -32,7 +32,8 @@ fn digit(byte: u8) -> u8 {
     }
 }
 
-fn digits_alone(text: &[u8]) -> bool {
+// Whether a text holds hexadecimal digits alone.
+pub fn digits_alone(text: &[u8]) -> bool {
     let mut i = 0;
     while i < text.len() {
         if digit(text[i]) == DIGITS {

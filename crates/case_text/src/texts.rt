@@ -1,4 +1,5 @@
-// Bytes into lists, and the sheet that a text stands for: `|` is byte 10, `\HH` the byte of two hexadecimal digits, `{K:TEXT}` K times TEXT.
+// Bytes into lists, and the sheet that a text stands for: `|` is byte 10, `\HH` the byte of two hexadecimal digits, `{K:TEXT}` K times TEXT, in
+// which bars are byte 10 too. Whatever else stands for itself.
 ghost use Prim.Native.Nat.{_<_, _≤_};
 ghost use lib.ListN.{length};
 use crate::fields;
@@ -76,7 +77,12 @@ fn escape_width(text: &[u8]) -> usize
     requires { ⌜ 0 < length (now text) ⌝ }
     ensures { λ r. ⌜ (0 < r) × (r ≤ length (now (text .entry))) ⌝ }
 {
-    if ESCAPE <= text.len() { ESCAPE } else { 1 }
+    if ESCAPE <= text.len() {
+        if hex::digits_alone(&text[1..ESCAPE]) {
+            return ESCAPE;
+        }
+    }
+    1
 }
 
 fn repeat_width(text: &[u8]) -> usize

@@ -7,6 +7,7 @@ use case_text::fields::Args;
 use case_text::kinds;
 use case_text::texts;
 use group::Group;
+use permutation::MAX_DECLARED;
 use permutation::MAX_GENERATORS;
 use permutation::TARGET_PLACES;
 
@@ -26,7 +27,7 @@ const LENGTH: usize = 5;
 const INDEX: usize = 6;
 
 // The largest order or target.
-const LARGEST: usize = 4294967295;
+const LARGEST: usize = MAX_DECLARED as usize;
 
 // ` NAME V` or ` NAME I V`.
 pub fn set(s: State, rest: &[u8]) -> State {

@@ -6,11 +6,12 @@ use crate::state;
 use crate::state::State;
 use case_rows::ROW_BYTES;
 use case_rows::ROW_ROOM;
+use case_rows::sheets::SHEET_ROOM;
 use case_text::texts;
 use libc::STDIN_FILENO;
 
 // The most bytes of a line, and one.
-const LINE_ROOM: usize = 131072;
+const LINE_ROOM: usize = SHEET_ROOM;
 
 // What is in force, how much of the next line is read, and whether the input is over.
 struct Reading {
