@@ -8,8 +8,9 @@ use crate::told;
 use outcome::Refusal;
 use sheet_text::Printed;
 
-// What a sheet prints, at the front of a list, and how many bytes that is; the rest of the list stays. Of a refused sheet that is the one line that says
-// so; its values are the line of the sheet, 0 for the sheet as a whole, and then what the rule names. 21 is a list that is too short; it stays.
+// What a sheet prints, at the front of a list, and how many bytes that is; the rest of the list stays. MAX_TABLE bytes suffice for any sheet. Of a refused
+// sheet that is the one line that says so; its values are the line of the sheet, 0 for the sheet as a whole, and then what the rule names. 21 is a list
+// that is too short; it stays, and nothing is written.
 #[no_mangle]
 pub extern "C" fn gomurin_sheet(
     input: &[u8],
