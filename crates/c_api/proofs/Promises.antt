@@ -1,13 +1,22 @@
--- What is promised of the calls for C beyond their contracts: a refused beginning of a walk hands back a word and an index that `gomurin_next` refuses,
--- whatever the group beside them.
-use Prim.Native.Nat.{suc, _<_}
+-- What is promised of the calls for C beyond their contracts: 0 is returned for an answer alone; no value of a rule is lost; a refused beginning of a walk
+-- hands back a word and an index that `gomurin_next` refuses, whatever the group beside them; and what each definition says of an example.
+use Prim.Native.Nat.{ℕ, suc, _<_}
 use mathlib.Core.Path.{_≡_, refl, ap}
 use mathlib.Core.Bool.{Bool, true, false, not, _&&_}
+use mathlib.Core.List.{List, [], _∷_, map}
 use native.Mathlib.Omega.{arith}
 use lib.Dec.{ltb, leb}
-use lib.ListN.{length}
+use lib.IntN.{pos, negsuc}
+use lib.ListN.{length, take}
 use borrow.Author.Tests.{lt-leb}
-use Rattle.outcome.specs.Outcome.{answers}
+use Rattle.outcome.specs.declared.Refusal.{Refusal}
+use Rattle.outcome.specs.declared.Refusal.the-variants as Refusal
+use Rattle.outcome.specs.declared.Number.{Number}
+use Rattle.outcome.specs.declared.Number.the-variants as Number
+use Rattle.outcome.specs.declared.Verdict.{Verdict}
+use Rattle.outcome.specs.declared.Verdict.the-variants as Verdict
+use Rattle.outcome.specs.Outcome.{Outcome, answer, refused, answers, ruleNumber, ruleValues, outcomeOfNumber, outcomeOfVerdict}
+use Rattle.pauli_word.specs.declared.Ordering.the-variants.{Less, Same, Greater}
 use Rattle.pauli_word.specs.Limits.{maxSites}
 use Rattle.pauli_word.specs.Calls.{clearAbove}
 use Rattle.permutation.specs.Limits.{maxGenerators, maxOrder, targetPlaces}
@@ -15,8 +24,92 @@ use Rattle.action.specs.Index.{orderOf}
 use Rattle.group.specs.declared.Group.{Group}
 use Rattle.group.specs.Value.{generatorsOf, isGroup}
 use Rattle.group.proofs.Accepted.{accepted-by, accepted-tables}
-use Rattle.orbit.specs.Calls.{isWalk, noWord, noWalk, nextOutcome}
-use Rattle.c_api.specs.Told.{walkIn}
+use Rattle.orbit.specs.Calls.{isWalk, noWord, noWalk, nextOutcome, entry, finished}
+use Rattle.momentum.specs.Calls.{kept, dropped}
+use Rattle.sheet_text.specs.Sheet.{Page, tablePage, refusalPage}
+use Rattle.c_api.specs.Told.{placed, numberOf, valuesOf, walkIn, signOf, indexOfEntry, isFinished, sizeIn, isKept, pageNumber, pageValues, pageLength}
+
+-- ---- 1 0 is returned for an answer alone: no rule has the number 0
+
+pub rule-positive : (why : Refusal) → 0 < ruleNumber why
+rule-positive Refusal.TooManySites = omega arith
+rule-positive Refusal.ListEndsInside = omega arith
+rule-positive Refusal.TooManyGenerators = omega arith
+rule-positive (Refusal.LengthMismatch a b) = omega arith
+rule-positive (Refusal.PermutationLength a b) = omega arith
+rule-positive (Refusal.TargetOutOfRange a b) = omega arith
+rule-positive (Refusal.DuplicateTarget a b) = omega arith
+rule-positive (Refusal.ZeroOrder a) = omega arith
+rule-positive (Refusal.PermutationOrderOverflow a) = omega arith
+rule-positive (Refusal.OrderMismatch a b c) = omega arith
+rule-positive (Refusal.NonCommuting a b) = omega arith
+rule-positive Refusal.GroupOrderOverflow = omega arith
+rule-positive Refusal.GroupOrderLimit = omega arith
+rule-positive Refusal.InvalidValue = omega arith
+rule-positive Refusal.WordLength = omega arith
+rule-positive Refusal.OtherSites = omega arith
+rule-positive Refusal.BitAboveSites = omega arith
+rule-positive (Refusal.RowBitAboveSites a) = omega arith
+rule-positive Refusal.ModeCount = omega arith
+rule-positive Refusal.IndexRange = omega arith
+rule-positive Refusal.CounterLength = omega arith
+rule-positive Refusal.ListLength = omega arith
+rule-positive Refusal.SumLists = omega arith
+rule-positive Refusal.TooManyRows = omega arith
+rule-positive (Refusal.NotFinite a) = omega arith
+rule-positive (Refusal.SumNotFinite a) = omega arith
+rule-positive Refusal.ZeroSide = omega arith
+rule-positive Refusal.SidesTooLarge = omega arith
+rule-positive Refusal.TooManyLetters = omega arith
+rule-positive (Refusal.NotALetter a) = omega arith
+rule-positive Refusal.SheetLength = omega arith
+rule-positive Refusal.LineForm = omega arith
+
+pub zero-number : (n : Number) → numberOf (outcomeOfNumber n) ≡ 0 → answers (outcomeOfNumber n) ≡ true
+zero-number (Number.Value k) e = refl
+zero-number (Number.Refused why) e = absurd (omega (arith, rule-positive why))
+
+pub zero-verdict : (v : Verdict) → numberOf (outcomeOfVerdict v) ≡ 0 → answers (outcomeOfVerdict v) ≡ true
+zero-verdict Verdict.Accepted e = refl
+zero-verdict (Verdict.Refused why) e = absurd (omega (arith, rule-positive why))
+
+-- ---- 2 Four places suffice: nothing that a rule names is lost, nor where a line of a sheet stands before it
+
+pub values-whole : (why : Refusal) (line : ℕ) → take (suc (length (ruleValues why))) (placed (line ∷ ruleValues why)) ≡ line ∷ ruleValues why
+values-whole Refusal.TooManySites line = refl
+values-whole Refusal.ListEndsInside line = refl
+values-whole Refusal.TooManyGenerators line = refl
+values-whole (Refusal.LengthMismatch a b) line = refl
+values-whole (Refusal.PermutationLength a b) line = refl
+values-whole (Refusal.TargetOutOfRange a b) line = refl
+values-whole (Refusal.DuplicateTarget a b) line = refl
+values-whole (Refusal.ZeroOrder a) line = refl
+values-whole (Refusal.PermutationOrderOverflow a) line = refl
+values-whole (Refusal.OrderMismatch a b c) line = refl
+values-whole (Refusal.NonCommuting a b) line = refl
+values-whole Refusal.GroupOrderOverflow line = refl
+values-whole Refusal.GroupOrderLimit line = refl
+values-whole Refusal.InvalidValue line = refl
+values-whole Refusal.WordLength line = refl
+values-whole Refusal.OtherSites line = refl
+values-whole Refusal.BitAboveSites line = refl
+values-whole (Refusal.RowBitAboveSites a) line = refl
+values-whole Refusal.ModeCount line = refl
+values-whole Refusal.IndexRange line = refl
+values-whole Refusal.CounterLength line = refl
+values-whole Refusal.ListLength line = refl
+values-whole Refusal.SumLists line = refl
+values-whole Refusal.TooManyRows line = refl
+values-whole (Refusal.NotFinite a) line = refl
+values-whole (Refusal.SumNotFinite a) line = refl
+values-whole Refusal.ZeroSide line = refl
+values-whole Refusal.SidesTooLarge line = refl
+values-whole Refusal.TooManyLetters line = refl
+values-whole (Refusal.NotALetter a) line = refl
+values-whole Refusal.SheetLength line = refl
+values-whole Refusal.LineForm line = refl
+
+-- ---- 3 A refused beginning of a walk
 
 and-false : (b : Bool) → (b && false) ≡ false
 and-false true = refl
@@ -41,3 +134,30 @@ module _ (g : Group) (targets : length (g .targets) ≡ targetPlaces) (orders : 
       go : (b : Bool) → ltb maxSites (g .sites) ≡ b → answers (nextOutcome (walkIn g (noWalk .word) (noWalk .index))) ≡ false
       go true e = rw e
       go false e = rw (e, past-end e)
+
+-- ---- 4 Examples: what each definition says
+
+pub numbers : map (numberOf {A = ℕ}) (refused 14 [] ∷ refused 10 (0 ∷ 2 ∷ 4 ∷ []) ∷ answer 7 ∷ []) ≡ 14 ∷ 10 ∷ 0 ∷ []
+numbers = refl
+
+pub places : map (valuesOf {A = ℕ}) (refused 14 [] ∷ refused 10 (0 ∷ 2 ∷ 4 ∷ []) ∷ answer 7 ∷ []) ≡ (0 ∷ 0 ∷ 0 ∷ 0 ∷ []) ∷ (0 ∷ 2 ∷ 4 ∷ 0 ∷ []) ∷ (0 ∷ 0 ∷ 0 ∷ 0 ∷ []) ∷ []
+places = refl
+
+pub signs : map signOf (Less ∷ Same ∷ Greater ∷ []) ≡ negsuc 0 ∷ pos 0 ∷ pos 1 ∷ []
+signs = refl
+
+pub entries : (map indexOfEntry (entry 3 ∷ finished ∷ []) ≡ 3 ∷ 0 ∷ []) × (map isFinished (entry 3 ∷ finished ∷ []) ≡ false ∷ true ∷ [])
+entries = (refl, refl)
+
+pub decisions : (map sizeIn (kept 4 ∷ dropped ∷ []) ≡ 4 ∷ 0 ∷ []) × (map (isKept {A = ℕ}) (kept 4 ∷ dropped ∷ []) ≡ true ∷ false ∷ [])
+decisions = (refl, refl)
+
+-- a sheet refused by 29 at line 4, at letter 2, its line of 13 bytes; a table of 84 bytes; a list too short
+abbrev pages : List (Outcome Page)
+pages = answer (refusalPage 29 4 (2 ∷ []) 13) ∷ answer (tablePage 84) ∷ refused 21 [] ∷ []
+
+pub page-numbers : (map pageNumber pages ≡ 29 ∷ 0 ∷ 21 ∷ []) × (map pageLength pages ≡ 13 ∷ 84 ∷ 0 ∷ [])
+page-numbers = (refl, refl)
+
+pub page-values : map pageValues pages ≡ (4 ∷ 2 ∷ 0 ∷ 0 ∷ []) ∷ (0 ∷ 0 ∷ 0 ∷ 0 ∷ []) ∷ (0 ∷ 0 ∷ 0 ∷ 0 ∷ []) ∷ []
+page-values = refl
