@@ -29,7 +29,13 @@ returns c =
     let same = c .before .before .before .before .before .before .group-in .ensures in
     let e = c .before .before .before .before .counter-from-index .ensures .0 ∙ ap (λ (g : Group). onAnswer done (counterOutcome g (a .index) (length (now (a .counter))))) same in
     let held = groupIn (a .sites) (a .generators) (now (a .orders)) (now (a .targets)) in
-    (c .verdict .ensures .0 ∙ number-told done (counterOutcome held (a .index) (length (now (a .counter)))) e, (c .before .before .before .before .counter-from-index .ensures .1 ∙ ap (λ (g : Group). orElse itself (now (a .counter)) (counterOutcome g (a .index) (length (now (a .counter))))) same, c .verdict .ensures .1 ∙ values-told done (counterOutcome held (a .index) (length (now (a .counter)))) e))
+    let o = counterOutcome held (a .index) (length (now (a .counter))) in (
+      c .verdict .ensures .0 ∙ number-told done o e,
+      (
+        c .before .before .before .before .counter-from-index .ensures .1 ∙ ap (λ (g : Group). orElse itself (now (a .counter)) (counterOutcome g (a .index) (length (now (a .counter))))) same,
+        c .verdict .ensures .1 ∙ values-told done o e,
+      ),
+    )
 
 pub gomurin-counter-from-index-spec : {M : Type 1} → statement M
 gomurin-counter-from-index-spec =

@@ -25,8 +25,14 @@ returns c =
     let a = c .before .before .before .before .before .before .args in
     let same = c .before .before .before .before .group-in .ensures in
     let held = groupIn (a .sites) (a .generators) (now (a .orders)) (now (a .targets)) in
-    let e = c .before .before .before .canonicalize .ensures .0 ∙ ap (λ (g : Group). onAnswer done (canonicalizeOutcome g (a .n) (now (a .word)))) same in
-    (c .verdict .ensures .0 ∙ number-told done (canonicalizeOutcome held (a .n) (now (a .word))) e, (c .before .before .before .canonicalize .ensures .1 ∙ ap (λ (g : Group). orElse bytesOf noWord (canonicalizeOutcome g (a .n) (now (a .word)))) same, c .verdict .ensures .1 ∙ values-told done (canonicalizeOutcome held (a .n) (now (a .word))) e))
+    let o = canonicalizeOutcome held (a .n) (now (a .word)) in
+    let e = c .before .before .before .canonicalize .ensures .0 ∙ ap (λ (g : Group). onAnswer done (canonicalizeOutcome g (a .n) (now (a .word)))) same in (
+      c .verdict .ensures .0 ∙ number-told done o e,
+      (
+        c .before .before .before .canonicalize .ensures .1 ∙ ap (λ (g : Group). orElse bytesOf noWord (canonicalizeOutcome g (a .n) (now (a .word)))) same,
+        c .verdict .ensures .1 ∙ values-told done o e,
+      ),
+    )
 
 pub gomurin-canonicalize-spec : {M : Type 1} → statement M
 gomurin-canonicalize-spec =

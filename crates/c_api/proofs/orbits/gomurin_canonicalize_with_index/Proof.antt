@@ -24,8 +24,17 @@ returns c =
     let a = c .before .before .before .before .before .before .before .args in
     let same = c .before .before .before .before .before .group-in .ensures in
     let held = groupIn (a .sites) (a .generators) (now (a .orders)) (now (a .targets)) in
-    let e = c .before .before .before .before .canonicalize-with-index .ensures .0 ∙ ap (λ (g : Group). onAnswer indexOf (withIndexOutcome g (a .n) (now (a .word)))) same in
-    (c .number .ensures .0 ∙ number-told indexOf (withIndexOutcome held (a .n) (now (a .word))) e, (c .before .before .before .before .canonicalize-with-index .ensures .1 ∙ ap (λ (g : Group). orElse wordOf noWord (withIndexOutcome g (a .n) (now (a .word)))) same, (c .number .ensures .1 .0 ∙ else-told indexOf (withIndexOutcome held (a .n) (now (a .word))) e itself 0, c .number .ensures .1 .1 ∙ values-told indexOf (withIndexOutcome held (a .n) (now (a .word))) e)))
+    let o = withIndexOutcome held (a .n) (now (a .word)) in
+    let e = c .before .before .before .before .canonicalize-with-index .ensures .0 ∙ ap (λ (g : Group). onAnswer indexOf (withIndexOutcome g (a .n) (now (a .word)))) same in (
+      c .number .ensures .0 ∙ number-told indexOf o e,
+      (
+        c .before .before .before .before .canonicalize-with-index .ensures .1 ∙ ap (λ (g : Group). orElse wordOf noWord (withIndexOutcome g (a .n) (now (a .word)))) same,
+        (
+          c .number .ensures .1 .0 ∙ else-told indexOf o e itself 0,
+          c .number .ensures .1 .1 ∙ values-told indexOf o e,
+        ),
+      ),
+    )
 
 pub gomurin-canonicalize-with-index-spec : {M : Type 1} → statement M
 gomurin-canonicalize-with-index-spec =

@@ -28,8 +28,17 @@ returns c =
     let a = c .before .before .before .before .before .before .before .before .before .before .args in
     let same = c .before .before .before .before .before .before .before .group-in .ensures in
     let held = groupIn (a .sites) (a .generators) (now (a .orders)) (now (a .targets)) in
-    let e = c .before .before .before .before .before .canonicalize-with-shift .ensures .0 ∙ ap (λ (g : Group). onAnswer done (withShiftOutcome g (a .n) (now (a .word)) (length (now (a .counter))))) same in
-    (c .verdict .ensures .0 ∙ number-told done (withShiftOutcome held (a .n) (now (a .word)) (length (now (a .counter)))) e, (c .before .before .before .before .before .canonicalize-with-shift .ensures .1 .0 ∙ ap (λ (g : Group). orElse wordOf noWord (withShiftOutcome g (a .n) (now (a .word)) (length (now (a .counter))))) same, (c .before .before .before .before .before .canonicalize-with-shift .ensures .1 .1 ∙ ap (λ (g : Group). orElse shiftOf (now (a .counter)) (withShiftOutcome g (a .n) (now (a .word)) (length (now (a .counter))))) same, c .verdict .ensures .1 ∙ values-told done (withShiftOutcome held (a .n) (now (a .word)) (length (now (a .counter)))) e)))
+    let o = withShiftOutcome held (a .n) (now (a .word)) (length (now (a .counter))) in
+    let e = c .before .before .before .before .before .canonicalize-with-shift .ensures .0 ∙ ap (λ (g : Group). onAnswer done (withShiftOutcome g (a .n) (now (a .word)) (length (now (a .counter))))) same in (
+      c .verdict .ensures .0 ∙ number-told done o e,
+      (
+        c .before .before .before .before .before .canonicalize-with-shift .ensures .1 .0 ∙ ap (λ (g : Group). orElse wordOf noWord (withShiftOutcome g (a .n) (now (a .word)) (length (now (a .counter))))) same,
+        (
+          c .before .before .before .before .before .canonicalize-with-shift .ensures .1 .1 ∙ ap (λ (g : Group). orElse shiftOf (now (a .counter)) (withShiftOutcome g (a .n) (now (a .word)) (length (now (a .counter))))) same,
+          c .verdict .ensures .1 ∙ values-told done o e,
+        ),
+      ),
+    )
 
 pub gomurin-canonicalize-with-shift-spec : {M : Type 1} → statement M
 gomurin-canonicalize-with-shift-spec =

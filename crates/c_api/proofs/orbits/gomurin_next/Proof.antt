@@ -28,8 +28,25 @@ returns c =
     let a = c .before .before .before .before .before .before .before .before .before .before .before .before .args in
     let same = c .before .before .before .before .before .before .before .before .walk-in .ensures ∙ ap (λ (g : Group). walkIn g (now (a .at)) (now (a .index))) (c .before .before .before .before .before .before .before .before .before .before .before .group-in .ensures) in
     let e = c .before .before .before .before .before .before .before .next .ensures .0 ∙ ap nextOutcome same in
-    let walk = c .before .before .before .before .before .before .before .next .ensures .1 .1 ∙ ap (λ (w : Walk). orElse (afterEntry w) w (nextOutcome w)) same in
-    (c .step .ensures .0 ∙ ap numberOf e, (ap (λ (w : Walk). w .word) walk, (ap (λ (w : Walk). w .index) walk, (c .before .before .before .before .before .before .before .next .ensures .1 .0 ∙ ap (λ (w : Walk). orElse (entryWord w) noWord (nextOutcome w)) same, (c .step .ensures .1 .0 ∙ ap (orElse indexOfEntry 0) e, (c .step .ensures .1 .1 .0 ∙ ap (orElse isFinished false) e, c .step .ensures .1 .1 .1 ∙ ap valuesOf e))))))
+    let walk = c .before .before .before .before .before .before .before .next .ensures .1 .1 ∙ ap (λ (w : Walk). orElse (afterEntry w) w (nextOutcome w)) same in (
+      c .step .ensures .0 ∙ ap numberOf e,
+      (
+        ap (λ (w : Walk). w .word) walk,
+        (
+          ap (λ (w : Walk). w .index) walk,
+          (
+            c .before .before .before .before .before .before .before .next .ensures .1 .0 ∙ ap (λ (w : Walk). orElse (entryWord w) noWord (nextOutcome w)) same,
+            (
+              c .step .ensures .1 .0 ∙ ap (orElse indexOfEntry 0) e,
+              (
+                c .step .ensures .1 .1 .0 ∙ ap (orElse isFinished false) e,
+                c .step .ensures .1 .1 .1 ∙ ap valuesOf e,
+              ),
+            ),
+          ),
+        ),
+      ),
+    )
 
 pub gomurin-next-spec : {M : Type 1} → statement M
 gomurin-next-spec =

@@ -25,9 +25,18 @@ returns c =
     let a = c .before .before .before .before .before .before .before .args in
     let same = c .before .before .before .before .before .group-in .ensures in
     let held = groupIn (a .sites) (a .generators) (now (a .orders)) (now (a .targets)) in
+    let o = beginOutcome held (a .n) (now (a .word)) in
     let e = c .before .before .before .before .orbit .ensures .0 ∙ ap (λ (g : Group). onAnswer done (beginOutcome g (a .n) (now (a .word)))) same in
-    let walk = c .before .before .before .before .orbit .ensures .1 ∙ ap (λ (g : Group). orElse itself noWalk (beginOutcome g (a .n) (now (a .word)))) same in
-    (c .verdict .ensures .0 ∙ number-told done (beginOutcome held (a .n) (now (a .word))) e, (ap (λ (w : Walk). w .word) walk, (ap (λ (w : Walk). w .index) walk, c .verdict .ensures .1 ∙ values-told done (beginOutcome held (a .n) (now (a .word))) e)))
+    let walk = c .before .before .before .before .orbit .ensures .1 ∙ ap (λ (g : Group). orElse itself noWalk (beginOutcome g (a .n) (now (a .word)))) same in (
+      c .verdict .ensures .0 ∙ number-told done o e,
+      (
+        ap (λ (w : Walk). w .word) walk,
+        (
+          ap (λ (w : Walk). w .index) walk,
+          c .verdict .ensures .1 ∙ values-told done o e,
+        ),
+      ),
+    )
 
 pub gomurin-orbit-spec : {M : Type 1} → statement M
 gomurin-orbit-spec = tie.close (tie.spec group-in-requires orbit-requires verdict-requires returns)

@@ -30,7 +30,13 @@ returns c =
     let same = c .before .before .before .before .before .before .group-in .ensures in
     let e = c .before .before .before .before .orbit-list .ensures .0 ∙ ap (λ (g : Group). onAnswer done (orbitListOutcome g (a .n) (now (a .word)) (length (now (a .list))))) same in
     let held = groupIn (a .sites) (a .generators) (now (a .orders)) (now (a .targets)) in
-    (c .verdict .ensures .0 ∙ number-told done (orbitListOutcome held (a .n) (now (a .word)) (length (now (a .list)))) e, (c .before .before .before .before .orbit-list .ensures .1 ∙ ap (λ (g : Group). orElse encodeAll (now (a .list)) (orbitListOutcome g (a .n) (now (a .word)) (length (now (a .list))))) same, c .verdict .ensures .1 ∙ values-told done (orbitListOutcome held (a .n) (now (a .word)) (length (now (a .list)))) e))
+    let o = orbitListOutcome held (a .n) (now (a .word)) (length (now (a .list))) in (
+      c .verdict .ensures .0 ∙ number-told done o e,
+      (
+        c .before .before .before .before .orbit-list .ensures .1 ∙ ap (λ (g : Group). orElse encodeAll (now (a .list)) (orbitListOutcome g (a .n) (now (a .word)) (length (now (a .list))))) same,
+        c .verdict .ensures .1 ∙ values-told done o e,
+      ),
+    )
 
 pub gomurin-orbit-list-spec : {M : Type 1} → statement M
 gomurin-orbit-list-spec =

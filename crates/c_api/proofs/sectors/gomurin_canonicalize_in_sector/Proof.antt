@@ -31,8 +31,23 @@ returns c =
     let a = c .before .before .before .before .before .before .before .before .before .before .before .before .args in
     let same = c .before .before .before .before .before .before .before .before .before .group-in .ensures in
     let held = groupIn (a .sites) (a .generators) (now (a .orders)) (now (a .targets)) in
-    let e = c .before .before .before .before .before .before .before .canonicalize-in-sector .ensures .0 ∙ ap (λ (g : Group). onAnswer sizeOf (sectorOutcome g (a .n) (now (a .word)) (now (a .modes)) (length (now (a .counter))))) same in
-    (c .sector .ensures .0 ∙ number-told sizeOf (sectorOutcome held (a .n) (now (a .word)) (now (a .modes)) (length (now (a .counter)))) e, (c .before .before .before .before .before .before .before .canonicalize-in-sector .ensures .1 .0 ∙ ap (λ (g : Group). orElse rowWord noWord (sectorOutcome g (a .n) (now (a .word)) (now (a .modes)) (length (now (a .counter))))) same, (c .before .before .before .before .before .before .before .canonicalize-in-sector .ensures .1 .1 ∙ ap (λ (g : Group). orElse (rowCounter (generatorsOf g) (now (a .counter))) (now (a .counter)) (sectorOutcome g (a .n) (now (a .word)) (now (a .modes)) (length (now (a .counter))))) same, (c .sector .ensures .1 .0 ∙ else-told sizeOf (sectorOutcome held (a .n) (now (a .word)) (now (a .modes)) (length (now (a .counter)))) e sizeIn 0 ∙ size-row (sectorOutcome held (a .n) (now (a .word)) (now (a .modes)) (length (now (a .counter)))), (c .sector .ensures .1 .1 .0 ∙ else-told sizeOf (sectorOutcome held (a .n) (now (a .word)) (now (a .modes)) (length (now (a .counter)))) e isKept false ∙ kept-row (sectorOutcome held (a .n) (now (a .word)) (now (a .modes)) (length (now (a .counter)))), c .sector .ensures .1 .1 .1 ∙ values-told sizeOf (sectorOutcome held (a .n) (now (a .word)) (now (a .modes)) (length (now (a .counter)))) e)))))
+    let o = sectorOutcome held (a .n) (now (a .word)) (now (a .modes)) (length (now (a .counter))) in
+    let e = c .before .before .before .before .before .before .before .canonicalize-in-sector .ensures .0 ∙ ap (λ (g : Group). onAnswer sizeOf (sectorOutcome g (a .n) (now (a .word)) (now (a .modes)) (length (now (a .counter))))) same in (
+      c .sector .ensures .0 ∙ number-told sizeOf o e,
+      (
+        c .before .before .before .before .before .before .before .canonicalize-in-sector .ensures .1 .0 ∙ ap (λ (g : Group). orElse rowWord noWord (sectorOutcome g (a .n) (now (a .word)) (now (a .modes)) (length (now (a .counter))))) same,
+        (
+          c .before .before .before .before .before .before .before .canonicalize-in-sector .ensures .1 .1 ∙ ap (λ (g : Group). orElse (rowCounter (generatorsOf g) (now (a .counter))) (now (a .counter)) (sectorOutcome g (a .n) (now (a .word)) (now (a .modes)) (length (now (a .counter))))) same,
+          (
+            c .sector .ensures .1 .0 ∙ else-told sizeOf o e sizeIn 0 ∙ size-row o,
+            (
+              c .sector .ensures .1 .1 .0 ∙ else-told sizeOf o e isKept false ∙ kept-row o,
+              c .sector .ensures .1 .1 .1 ∙ values-told sizeOf o e,
+            ),
+          ),
+        ),
+      ),
+    )
 
 pub gomurin-canonicalize-in-sector-spec : {M : Type 1} → statement M
 gomurin-canonicalize-in-sector-spec =

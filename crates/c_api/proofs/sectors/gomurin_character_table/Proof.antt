@@ -29,7 +29,13 @@ returns c =
     let same = c .before .before .before .before .before .before .group-in .ensures in
     let e = c .before .before .before .before .character-table .ensures .0 ∙ ap (λ (g : Group). onAnswer done (tableOutcome g (now (a .modes)) (length (now (a .list))))) same in
     let held = groupIn (a .sites) (a .generators) (now (a .orders)) (now (a .targets)) in
-    (c .verdict .ensures .0 ∙ number-told done (tableOutcome held (now (a .modes)) (length (now (a .list)))) e, (c .before .before .before .before .character-table .ensures .1 ∙ ap (λ (g : Group). orElse itself (now (a .list)) (tableOutcome g (now (a .modes)) (length (now (a .list))))) same, c .verdict .ensures .1 ∙ values-told done (tableOutcome held (now (a .modes)) (length (now (a .list)))) e))
+    let o = tableOutcome held (now (a .modes)) (length (now (a .list))) in (
+      c .verdict .ensures .0 ∙ number-told done o e,
+      (
+        c .before .before .before .before .character-table .ensures .1 ∙ ap (λ (g : Group). orElse itself (now (a .list)) (tableOutcome g (now (a .modes)) (length (now (a .list))))) same,
+        c .verdict .ensures .1 ∙ values-told done o e,
+      ),
+    )
 
 pub gomurin-character-table-spec : {M : Type 1} → statement M
 gomurin-character-table-spec =

@@ -32,24 +32,48 @@ same-length c = search needs
 
 returns : tie.Need-returns
 returns c =
-    let e = sym (ap outcomeOfPrinted (c .before .before .before .bytes .given .1)) ∙ c .before .before .before .before .before .before .before .sheet-text .ensures .0 in
-    (c .answered .ensures .0 ∙ ap pageNumber e, (c .before .before .before .before .before .before .before .sheet-text .ensures .1, (ap pageLength e, c .answered .ensures .1 ∙ ap pageValues e)))
+    let e = sym (ap outcomeOfPrinted (c .before .before .before .bytes .given .1)) ∙ c .before .before .before .before .before .before .before .sheet-text .ensures .0 in (
+      c .answered .ensures .0 ∙ ap pageNumber e,
+      (
+        c .before .before .before .before .before .before .before .sheet-text .ensures .1,
+        (
+          ap pageLength e,
+          c .answered .ensures .1 ∙ ap pageValues e,
+        ),
+      ),
+    )
 
 same-length-2 : tie.Need-same-length-2
 same-length-2 c = search needs
 
 returns-2 : tie.Need-returns-2
 returns-2 c =
-    let e = sym (ap outcomeOfPrinted (c .before .before .before .why .given .1)) ∙ c .before .before .before .before .before .before .before .sheet-text .ensures .0 in
-    (c .refused-at .ensures .0 ∙ ap pageNumber e, (c .before .before .before .before .before .before .before .sheet-text .ensures .1, (ap pageLength e, c .refused-at .ensures .1 ∙ ap pageValues e)))
+    let e = sym (ap outcomeOfPrinted (c .before .before .before .why .given .1)) ∙ c .before .before .before .before .before .before .before .sheet-text .ensures .0 in (
+      c .refused-at .ensures .0 ∙ ap pageNumber e,
+      (
+        c .before .before .before .before .before .before .before .sheet-text .ensures .1,
+        (
+          ap pageLength e,
+          c .refused-at .ensures .1 ∙ ap pageValues e,
+        ),
+      ),
+    )
 
 same-length-3 : tie.Need-same-length-3
 same-length-3 c = search needs
 
 returns-3 : tie.Need-returns-3
 returns-3 c =
-    let e = sym (ap outcomeOfPrinted (c .before .before .enum-told .given .1)) ∙ c .before .before .before .before .before .before .sheet-text .ensures .0 in
-    (c .refused .ensures .0 ∙ ap pageNumber e, (c .before .before .before .before .before .before .sheet-text .ensures .1, (ap pageLength e, c .refused .ensures .1 ∙ ap pageValues e)))
+    let e = sym (ap outcomeOfPrinted (c .before .before .enum-told .given .1)) ∙ c .before .before .before .before .before .before .sheet-text .ensures .0 in (
+      c .refused .ensures .0 ∙ ap pageNumber e,
+      (
+        c .before .before .before .before .before .before .sheet-text .ensures .1,
+        (
+          ap pageLength e,
+          c .refused .ensures .1 ∙ ap pageValues e,
+        ),
+      ),
+    )
 
 pub gomurin-sheet-spec : {M : Type 1} → statement M
 gomurin-sheet-spec =

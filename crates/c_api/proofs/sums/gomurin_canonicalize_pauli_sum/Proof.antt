@@ -34,8 +34,23 @@ returns c =
     let a = c .before .before .before .before .before .before .before .before .before .before .before .before .before .before .before .before .before .before .before .args in
     let same = c .before .before .before .before .before .before .before .before .before .before .before .before .before .group-in .ensures in
     let held = groupIn (a .sites) (a .generators) (now (a .orders)) (now (a .targets)) in
-    let e = c .before .before .before .before .before .before .before .before .before .canonicalize-pauli-sum .ensures .0 ∙ ap (λ (g : Group). onAnswer length (sumOutcome g (now (a .words)) (now (a .coefficients)) (now (a .representatives)) (now (a .sums)) (now (a .counts)))) same in
-    (c .number .ensures .0 ∙ number-told length (sumOutcome held (now (a .words)) (now (a .coefficients)) (now (a .representatives)) (now (a .sums)) (now (a .counts))) e, (c .before .before .before .before .before .before .before .before .before .canonicalize-pauli-sum .ensures .1 .0 ∙ ap (λ (g : Group). wordsAfter g (now (a .words)) (now (a .coefficients)) (now (a .representatives)) (now (a .sums)) (now (a .counts))) same, (c .before .before .before .before .before .before .before .before .before .canonicalize-pauli-sum .ensures .1 .1 .0 ∙ ap (λ (g : Group). sumsAfter g (now (a .words)) (now (a .coefficients)) (now (a .representatives)) (now (a .sums)) (now (a .counts))) same, (c .before .before .before .before .before .before .before .before .before .canonicalize-pauli-sum .ensures .1 .1 .1 ∙ ap (λ (g : Group). countsAfter g (now (a .words)) (now (a .coefficients)) (now (a .representatives)) (now (a .sums)) (now (a .counts))) same, (c .number .ensures .1 .0 ∙ else-told length (sumOutcome held (now (a .words)) (now (a .coefficients)) (now (a .representatives)) (now (a .sums)) (now (a .counts))) e itself 0, c .number .ensures .1 .1 ∙ values-told length (sumOutcome held (now (a .words)) (now (a .coefficients)) (now (a .representatives)) (now (a .sums)) (now (a .counts))) e)))))
+    let o = sumOutcome held (now (a .words)) (now (a .coefficients)) (now (a .representatives)) (now (a .sums)) (now (a .counts)) in
+    let e = c .before .before .before .before .before .before .before .before .before .canonicalize-pauli-sum .ensures .0 ∙ ap (λ (g : Group). onAnswer length (sumOutcome g (now (a .words)) (now (a .coefficients)) (now (a .representatives)) (now (a .sums)) (now (a .counts)))) same in (
+      c .number .ensures .0 ∙ number-told length o e,
+      (
+        c .before .before .before .before .before .before .before .before .before .canonicalize-pauli-sum .ensures .1 .0 ∙ ap (λ (g : Group). wordsAfter g (now (a .words)) (now (a .coefficients)) (now (a .representatives)) (now (a .sums)) (now (a .counts))) same,
+        (
+          c .before .before .before .before .before .before .before .before .before .canonicalize-pauli-sum .ensures .1 .1 .0 ∙ ap (λ (g : Group). sumsAfter g (now (a .words)) (now (a .coefficients)) (now (a .representatives)) (now (a .sums)) (now (a .counts))) same,
+          (
+            c .before .before .before .before .before .before .before .before .before .canonicalize-pauli-sum .ensures .1 .1 .1 ∙ ap (λ (g : Group). countsAfter g (now (a .words)) (now (a .coefficients)) (now (a .representatives)) (now (a .sums)) (now (a .counts))) same,
+            (
+              c .number .ensures .1 .0 ∙ else-told length o e itself 0,
+              c .number .ensures .1 .1 ∙ values-told length o e,
+            ),
+          ),
+        ),
+      ),
+    )
 
 pub gomurin-canonicalize-pauli-sum-spec : {M : Type 1} → statement M
 gomurin-canonicalize-pauli-sum-spec =

@@ -41,8 +41,13 @@ refused-requires c κs = search needs
 
 returns : tie.Need-returns
 returns c =
-    let e = sym (ap outcomeOfComparison (c .before .before .before .before .found .given .1)) ∙ c .before .before .before .before .before .before .compare .ensures in
-    (c .answered .ensures .0 ∙ ap numberOf e, (ap stored (c .before .before .sign-of .ensures) ∙ sign-stored (c .before .before .before .before .found .given .0 .0) ∙ ap (orElse signOf (pos 0)) e, c .answered .ensures .1 ∙ ap valuesOf e))
+    let e = sym (ap outcomeOfComparison (c .before .before .before .before .found .given .1)) ∙ c .before .before .before .before .before .before .compare .ensures in (
+      c .answered .ensures .0 ∙ ap numberOf e,
+      (
+        ap stored (c .before .before .sign-of .ensures) ∙ sign-stored (c .before .before .before .before .found .given .0 .0) ∙ ap (orElse signOf (pos 0)) e,
+        c .answered .ensures .1 ∙ ap valuesOf e,
+      ),
+    )
 
 returns-2 : tie.Need-returns-2
 returns-2 c =

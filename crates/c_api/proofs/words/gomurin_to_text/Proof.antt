@@ -19,8 +19,16 @@ returns : tie.Need-returns
 returns c =
     let a = c .before .before .before .before .before .before .args in
     let o = toTextOutcome (a .n) (now (a .word)) in
-    let e = c .before .before .before .before .to-text .ensures .0 in
-    (c .number .ensures .0 ∙ number-told length o e, (c .number .ensures .1 .0 ∙ else-told length o e itself 0, (c .before .before .before .before .to-text .ensures .1, c .number .ensures .1 .1 ∙ values-told length o e)))
+    let e = c .before .before .before .before .to-text .ensures .0 in (
+      c .number .ensures .0 ∙ number-told length o e,
+      (
+        c .number .ensures .1 .0 ∙ else-told length o e itself 0,
+        (
+          c .before .before .before .before .to-text .ensures .1,
+          c .number .ensures .1 .1 ∙ values-told length o e,
+        ),
+      ),
+    )
 
 pub gomurin-to-text-spec : {M : Type 1} → statement M
 gomurin-to-text-spec = tie.close (tie.spec to-text-requires number-requires returns)
