@@ -96,7 +96,7 @@ module _ {n : ℕ} {gs : List Generator} (v : Valid n gs) (w : Word) (e : length
       fixes-intro gs u i (ap (reach gs i) a ∙ reach-comm v i j w e ∙ ap (reach gs j) (fixes-elim gs w i k) ∙ sym a)
 
   -- each word of the orbit is reached as often as the word itself
-  count-reaching : (u : Word) → isIn u (orbit gs w) ≡ true → count (λ i. same (reach gs i w) u) (below (orderOf gs)) ≡ length (fixing gs w)
+  pub count-reaching : (u : Word) → isIn u (orbit gs w) ≡ true → count (λ i. same (reach gs i w) u) (below (orderOf gs)) ≡ length (fixing gs w)
   unfolding fixing
   count-reaching u h =
       count-bijection (below N) (below N) (λ i. same (reach gs i w) u) (fixes gs w) (λ i. add gs i (inverse gs k)) (λ i. add gs i k)

@@ -70,10 +70,12 @@ module _ (gs : List Generator) (w : Word) (i : ℕ) where
   lead-next : leastSoFar gs w (i + 1) ≡ cond (less (reach gs i w) (leastSoFar gs w i)) (reach gs i w) (leastSoFar gs w i)
   lead-next = ap (leastOf w) (entries-next gs w i) ∙ leastOf-next w (entries gs w i) (reach gs i w)
 
-  entries-long : (u : Word) → Member u (entries gs w i) → length u ≡ length w
+  -- every entry is as long as the word
+  pub entries-long : (u : Word) → Member u (entries gs w i) → length u ≡ length w
   entries-long u m = let (j, k, e) = of-member-map (λ j. reach gs j w) (below i) u m in ap length e ∙ reach-length gs j w
 
-  lead-length : length (leastSoFar gs w i) ≡ length w
+  -- and so is the least so far
+  pub lead-length : length (leastSoFar gs w i) ≡ length w
   lead-length = ⊎-elim (λ e. ap length e) (entries-long (leastSoFar gs w i)) (leastOf-member w (entries gs w i))
 
   -- an entry that is less than it is the least, for the first time
@@ -81,14 +83,15 @@ module _ (gs : List Generator) (w : Word) (i : ℕ) where
     pub lead-taken : leastSoFar gs w (i + 1) ≡ reach gs i w
     lead-taken = rw (lead-next, h)
 
+    -- no entry before it is the same
+    pub lead-new : Member (reach gs i w) (entries gs w i) → ⊥
+    lead-new m = false≢true (sym (leastOf-least w (entries gs w i) refl entries-long (reach gs i w) (inr m)) ∙ h)
+
     pub place-taken : firstAt (leastSoFar gs w (i + 1)) (entries gs w (i + 1)) ≡ i
     place-taken =
         rw (lead-taken, entries-next gs w i)
-        (firstAt-append (reach gs i w) (entries gs w i) (reach gs i w ∷ []) new
+        (firstAt-append (reach gs i w) (entries gs w i) (reach gs i w ∷ []) lead-new
         ∙ rw (entries-length gs w i, firstAt-own, add-zero))
-      where
-        new : Member (reach gs i w) (entries gs w i) → ⊥
-        new m = false≢true (sym (leastOf-least w (entries gs w i) refl entries-long (reach gs i w) (inr m)) ∙ h)
 
   -- otherwise both stay
   module _ (h : less (reach gs i w) (leastSoFar gs w i) ≡ false) where
@@ -110,9 +113,9 @@ module _ (gs : List Generator) (w : Word) (i : ℕ) where
         go (inl e) = rw e (place-first gs w)
         go (inr k) = firstAt-member (leastSoFar gs w i) (entries gs w i) (reach gs i w ∷ []) (listed k)
 
--- ---- what comparing the bytes of two words says
+-- ---- what comparing two words says, and their bytes
 
-order-less : (v w : Word) → orderOfWords v w ≡ Less → less v w ≡ true
+pub order-less : (v w : Word) → orderOfWords v w ≡ Less → less v w ≡ true
 unfolding orderOfWords
 order-less v w = go (less v w) (less w v)
   where
@@ -121,7 +124,7 @@ order-less v w = go (less v w) (less w v)
     go false true e = let z : _≡_ {A = ℕ} 0 1 = cc in absurd (omega arith)
     go false false e = let z : _≡_ {A = ℕ} 0 1 = cc in absurd (omega arith)
 
-order-not-less : (v w : Word) → (orderOfWords v w ≡ Less → ⊥) → less v w ≡ false
+pub order-not-less : (v w : Word) → (orderOfWords v w ≡ Less → ⊥) → less v w ≡ false
 unfolding orderOfWords
 order-not-less v w = go (less v w) (less w v)
   where
@@ -129,7 +132,7 @@ order-not-less v w = go (less v w) (less w v)
     go true b h = absurd (h refl)
     go false b h = refl
 
-order-same : (v w : Word) → length v ≡ length w → orderOfWords v w ≡ Same → same v w ≡ true
+pub order-same : (v w : Word) → length v ≡ length w → orderOfWords v w ≡ Same → same v w ≡ true
 unfolding orderOfWords
 order-same v w l = go (less v w) (less w v) (less-total v w l)
   where
@@ -140,7 +143,7 @@ order-same v w l = go (less v w) (less w v) (less-total v w l)
     go false false (inr (inl h)) e = rw h (same-refl w)
     go false false (inr (inr h)) e = absurd (false≢true h)
 
-order-not-same : (v w : Word) → (orderOfWords v w ≡ Same → ⊥) → same v w ≡ false
+pub order-not-same : (v w : Word) → (orderOfWords v w ≡ Same → ⊥) → same v w ≡ false
 unfolding orderOfWords
 order-not-same v w h = go (same v w) refl
   where

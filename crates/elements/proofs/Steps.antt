@@ -29,21 +29,24 @@ module _ {k n : ℕ} {targets orders : List ℕ} (t : Tables k n targets orders)
   unfolding stepped digits
   stepped-at h = rw (rest-at t g h)
 
-  stepped-stays : g < k → (rest % getD orders g 0 + 1 ≡ getD orders g 0 → ⊥)
+  -- a digit that does not roll over: moved by generator g alone
+  pub stepped-stays : g < k → (rest % getD orders g 0 + 1 ≡ getD orders g 0 → ⊥)
       → stepped (drop g (generatorsIn k n targets orders)) (digits (drop g (generatorsIn k n targets orders)) rest) w ≡ move (rowAt n targets g) w
   stepped-stays h d = rw (stepped-at h, ne-eqb (suc (rest % getD orders g 0)) (getD orders g 0) (λ e. d (omega arith)))
 
-  stepped-rolls : g < k → rest % getD orders g 0 + 1 ≡ getD orders g 0
+  -- a digit that rolls over: moved by generator g, and on by those after it
+  pub stepped-rolls : g < k → rest % getD orders g 0 + 1 ≡ getD orders g 0
       → stepped (drop g (generatorsIn k n targets orders)) (digits (drop g (generatorsIn k n targets orders)) rest) w
       ≡ stepped (drop (g + 1) (generatorsIn k n targets orders)) (digits (drop (g + 1) (generatorsIn k n targets orders)) (rest / getD orders g 0)) (move (rowAt n targets g) w)
   stepped-rolls h d = rw (stepped-at h, eq-eqb (suc (rest % getD orders g 0)) (getD orders g 0) (omega arith))
 
-  stepped-end : k ≤ g → stepped (drop g (generatorsIn k n targets orders)) (digits (drop g (generatorsIn k n targets orders)) rest) w ≡ w
+  -- after the last generator nothing is left to move
+  pub stepped-end : k ≤ g → stepped (drop g (generatorsIn k n targets orders)) (digits (drop g (generatorsIn k n targets orders)) rest) w ≡ w
   unfolding stepped digits
   stepped-end h = rw (rest-end t g h)
 
 -- row g as a part of the targets, from its start to its end
-row-part : (n g : ℕ) (targets : List ℕ) → take (maxSites * g + n - maxSites * g) (drop (maxSites * g) targets) ≡ rowAt n targets g
+pub row-part : (n g : ℕ) (targets : List ℕ) → take (maxSites * g + n - maxSites * g) (drop (maxSites * g) targets) ≡ rowAt n targets g
 row-part n g targets = ap (λ (j : ℕ). take j (drop (maxSites * g) targets)) (add-sub-cancel-left (maxSites * g) n)
 
 pub part-permutes : {k n : ℕ} {targets orders : List ℕ} → Tables k n targets orders → (g : ℕ) → g < k

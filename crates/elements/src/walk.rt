@@ -10,6 +10,7 @@ ghost use Rattle.action.specs.Permutation.{Permutes};
 ghost use Rattle.action.specs.Index.{orderOf, digits};
 ghost use Rattle.action.specs.Orbit.{move as moveBy, stepped, orbitList, least, forward};
 ghost use Rattle.elements.specs.HeldGroup.{generatorsIn, Tables, encodeAll};
+use crate::letters;
 use pauli_word::MAX_SITES;
 use pauli_word::Ordering;
 use pauli_word::WORD_BYTES;
@@ -26,15 +27,9 @@ pub fn apply_generator(perm: &[u32], sites: usize, word: &[u8]) -> [u8; WORD_BYT
     requires { ⌜ AcceptedWord sites (now word) ⌝ }
     ensures { λ r. ⌜ r ≡ bytesOf (moveBy (now (perm .entry)) (lettersIn sites (now (word .entry)))) ⌝ }
 {
-    let mut out = [0u8; WORD_BYTES];
-    let mut q = 0;
-    while q < sites {
-        let s = pauli_word::inner::site_at(word, q);
-        let target = perm[q] as usize;
-        pauli_word::inner::put_site(&mut out, target, s.x, s.z);
-        q += 1;
-    }
-    out
+    let mut from = [0u8; MAX_SITES];
+    let mut to = [0u8; MAX_SITES];
+    letters::moved(perm, sites, word, &mut from[0..sites], &mut to[0..sites])
 }
 
 // The walk's step from the entry of an index to the next: moved by generator 0, and by each next one while the digits below roll over.
