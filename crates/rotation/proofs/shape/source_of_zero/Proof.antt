@@ -1,0 +1,51 @@
+-- `shape::source_of_zero` meets its contract.
+use Prim.Native.Nat.{_-_, _≤_}
+use native.Mathlib.Omega.{arith}
+use lib.ListN.{length}
+use Rattle.rotation.proofs.shape.source_of_zero.Statement.{statement}
+use Rattle.rotation.proofs.shape.source_of_zero.Tie as tie
+
+abbrev Inv-loop : tie.InvT-loop
+Inv-loop perm q₀ q = q ≤ length perm
+
+abbrev μ-loop : tie.MeasureT-loop
+μ-loop perm q₀ q = length perm - q
+
+loop-holds : tie.Need-loop-holds Inv-loop μ-loop
+loop-holds c = omega arith
+
+mul-if1 : tie.Need-mul-if1 Inv-loop μ-loop
+mul-if1 c = omega arith
+
+shared-slice-read-if1 : tie.Need-shared-slice-read-if1 Inv-loop μ-loop
+shared-slice-read-if1 c = omega arith
+
+returns : tie.Need-returns Inv-loop μ-loop
+returns c = omega arith
+
+add-q : tie.Need-add-q Inv-loop μ-loop
+add-q c = omega arith
+
+loop-less : tie.Need-loop-less Inv-loop μ-loop
+loop-less c = omega arith
+
+loop-again : tie.Need-loop-again Inv-loop μ-loop
+loop-again c = omega arith
+
+returns-2 : tie.Need-returns-2 Inv-loop μ-loop
+returns-2 c = omega arith
+
+pub source-of-zero-spec : {M : Type 1} → statement M
+source-of-zero-spec =
+    tie.close
+    (tie.spec
+    Inv-loop
+    μ-loop
+    loop-holds
+    mul-if1
+    shared-slice-read-if1
+    returns
+    add-q
+    loop-less
+    loop-again
+    returns-2)
