@@ -1,0 +1,24 @@
+-- What is found once a call: whether a group moves words by masks, and which indices fix a word.
+use Prim.Native.Nat.{ℕ}
+use mathlib.Core.Path.{_≡_}
+use mathlib.Core.List.{List}
+use lib.IntN.{ℤ}
+use lib.ListN.{length}
+use Rattle.pauli_word.specs.Word.{Word}
+use Rattle.action.specs.Permutation.{Generator}
+use Rattle.action.specs.Orbit.{fixing, orbitSize}
+use Rattle.action.specs.Sector.{trivial, keeps}
+use Rattle.rotation.specs.Rotation.{Shapes, Masks}
+use Rattle.paths.specs.declared.least.Fixing.{Fixing}
+use Rattle.paths.specs.declared.least.Fixing.the-variants.{Free, Multiples, Many}
+
+-- the shapes and the masks of a group's generators are at hand where it moves words by masks
+pub record Ready (m k n : ℕ) (targets strides rests masks : List ℕ) : Type 0 where
+  pub shapes : Shapes k n targets strides rests
+  pub kept : Masks k n m strides rests masks
+
+-- what is said of the indices that fix a word: 0 alone, the multiples of a step, or nothing
+abbrev pub Says : Fixing → List Generator → Word → Type 0
+Says Free gs w = length (fixing gs w) ≡ 1
+Says (Multiples step) gs w = ((ks : List ℤ) → keeps gs ks w ≡ trivial gs ks step) × (orbitSize gs w ≡ step)
+Says Many gs w = Unit {0}
