@@ -34,7 +34,7 @@ pub fn placement_of(group: Group, word: &[u8], modes: &[i32]) -> Placed
     let modulus = group::inner::modulus_of(group);
     let targets = group.targets;
     let orders = group.orders;
-    stabilizer::canonicalize_with_stabilizer(
+    stabilizer::placed(
         &targets,
         &orders,
         group.generators,

@@ -58,7 +58,7 @@ pub fn orbit_of(group: Group, word: &[u8], list: &mut [u8]) -> Verdict
     }
     let targets = group.targets;
     let orders = group.orders;
-    elements::walk::fill_orbit(
+    paths::moves::fill_orbit(
         &targets,
         &orders,
         group.generators,

@@ -46,7 +46,7 @@ pub fn least_of(group: Group, word: &[u8]) -> LeastWord
     let targets = group.targets;
     let orders = group.orders;
     let order = group::inner::order_of(group);
-    let found = elements::walk::canonicalize_odometer(
+    let found = paths::least::least(
         &targets,
         &orders,
         group.generators,

@@ -80,7 +80,7 @@ pub fn step_of(walk: Walk) -> Stepped
     let mut next = walk.word;
     let targets = group.targets;
     let orders = group.orders;
-    elements::walk::advance(
+    paths::moves::step(
         &targets,
         &orders,
         group.generators,

@@ -1,4 +1,4 @@
--- `inner::placement_of` meets its contract: it hands the tables of the group to the traversal.
+-- `inner::placement_of` meets its contract: it hands the tables of the group to the path that it takes.
 use Rattle.elements.specs.HeldGroup.{Tables}
 use Rattle.group.specs.Value.{generatorsOf}
 use Rattle.group.proofs.Accepted.{accepted-tables}
@@ -16,24 +16,24 @@ order-of-requires c κs = search needs
 modulus-of-requires : tie.Need-modulus-of-requires
 modulus-of-requires c κs = search needs
 
-slice-aggregate-canonicalize-with-stabilizer :
-    tie.Need-slice-aggregate-canonicalize-with-stabilizer
-slice-aggregate-canonicalize-with-stabilizer c = search needs
+slice-aggregate-placed :
+    tie.Need-slice-aggregate-placed
+slice-aggregate-placed c = search needs
 
-slice-aggregate-canonicalize-with-stabilizer-2 :
-    tie.Need-slice-aggregate-canonicalize-with-stabilizer-2
-slice-aggregate-canonicalize-with-stabilizer-2 c = search needs
+slice-aggregate-placed-2 :
+    tie.Need-slice-aggregate-placed-2
+slice-aggregate-placed-2 c = search needs
 
-canonicalize-with-stabilizer-requires : tie.Need-canonicalize-with-stabilizer-requires
+placed-requires : tie.Need-placed-requires
 unfolding generatorsOf
-canonicalize-with-stabilizer-requires c κs =
+placed-requires c κs =
     let s = c .before .before .before .before .before .before .before in
     let m = c .before .before .before .before in
     (tables s, (m .before .order-of .ensures, (m .modulus-of .ensures, (s .pre .1 .1, s .pre .1 .0))))
 
 returns : tie.Need-returns
 unfolding generatorsOf
-returns c = c .canonicalize-with-stabilizer .ensures
+returns c = c .placed .ensures
 
 pub placement-of-spec : {M : Type 1} → statement M
 placement-of-spec =
@@ -41,7 +41,7 @@ placement-of-spec =
     (tie.spec
     order-of-requires
     modulus-of-requires
-    slice-aggregate-canonicalize-with-stabilizer
-    slice-aggregate-canonicalize-with-stabilizer-2
-    canonicalize-with-stabilizer-requires
+    slice-aggregate-placed
+    slice-aggregate-placed-2
+    placed-requires
     returns)

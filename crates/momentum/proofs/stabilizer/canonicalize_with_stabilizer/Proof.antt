@@ -19,7 +19,7 @@ use Rattle.momentum.proofs.stabilizer.canonicalize_with_stabilizer.Tie 
 use Rattle.momentum.specs.Calls.{dropped}
 
 abbrev Inv-loop : tie.InvT-loop
-Inv-loop targets orders generators sites order modulus modes word here₀ best₀ index₀ fixing₀ i₀ here best index fixing i =
+Inv-loop targets orders generators sites order modulus modes word words masked strides rests masks here₀ best₀ index₀ fixing₀ i₀ here best index fixing i =
     let gs = generatorsIn generators sites targets orders in
     let w = lettersIn sites word in
     (i ≤ order)
@@ -29,48 +29,48 @@ Inv-loop targets orders generators sites order modulus modes word here₀ best�
     × Passed gs modes w i fixing
 
 abbrev μ-loop : tie.MeasureT-loop
-μ-loop targets orders generators sites order modulus modes word here₀ best₀ index₀ fixing₀ i₀ here best index fixing i =
+μ-loop targets orders generators sites order modulus modes word words masked strides rests masks here₀ best₀ index₀ fixing₀ i₀ here best index fixing i =
     order - i
 
 -- the word at hand is accepted
 here-accepted :
     (c : tie.At-loop Inv-loop μ-loop)
-    → let s = c .before .before .before .before .before .before .before .before .before .before in
+    → let s = c .before .before .before .before .before .before .before .before .before .before .before .before .before in
     AcceptedWord (s .args .sites) (c .loop .here)
 here-accepted c =
-    let s = c .before .before .before .before .before .before .before .before .before .before in
+    let s = c .before .before .before .before .before .before .before .before .before .before .before .before .before in
     let l = c .loop in
     let w = lettersIn (s .args .sites) (now (s .args .word)) in
-    walk-accepted (s .pre .0) w (decode-length (s .pre .1 .1 .1 .1)) (l .i) (l .inv .1)
+    walk-accepted (s .pre .0) w (decode-length (s .pre .1 .1 .1 .1 .0)) (l .i) (l .inv .1)
 
 best-accepted :
     (c : tie.At-loop Inv-loop μ-loop)
-    → let s = c .before .before .before .before .before .before .before .before .before .before in
+    → let s = c .before .before .before .before .before .before .before .before .before .before .before .before .before in
     AcceptedWord (s .args .sites) (c .loop .best)
 best-accepted c =
-    let s = c .before .before .before .before .before .before .before .before .before .before in
+    let s = c .before .before .before .before .before .before .before .before .before .before .before .before .before in
     let l = c .loop in
     let w = lettersIn (s .args .sites) (now (s .args .word)) in
-    lead-accepted (s .pre .0) w (decode-length (s .pre .1 .1 .1 .1)) (l .i) (l .inv .1) (l .inv .2)
+    lead-accepted (s .pre .0) w (decode-length (s .pre .1 .1 .1 .1 .0)) (l .i) (l .inv .1) (l .inv .2)
 
 slice-aggregate-copy : tie.Need-slice-aggregate-copy Inv-loop μ-loop
 slice-aggregate-copy c = refl
 
 copy-requires : tie.Need-copy-requires Inv-loop μ-loop
-copy-requires c κs = c .before .before .before .before .pre .1 .1 .1 .1 .long
+copy-requires c κs = c .before .before .before .before .before .before .before .pre .1 .1 .1 .1 .0 .long
 
 slice-aggregate-copy-2 : tie.Need-slice-aggregate-copy-2 Inv-loop μ-loop
 slice-aggregate-copy-2 c = refl
 
 copy-requires-2 : tie.Need-copy-requires-2 Inv-loop μ-loop
-copy-requires-2 c κs = c .before .before .before .before .before .before .before .pre .1 .1 .1 .1 .long
+copy-requires-2 c κs = c .before .before .before .before .before .before .before .before .before .before .pre .1 .1 .1 .1 .0 .long
 
 loop-holds : tie.Need-loop-holds Inv-loop μ-loop
 loop-holds c =
-    let s = c .before .before .before .before .before .before .before .before .before in
+    let s = c .before .before .before .before .before .before .before .before .before .before .before .before in
     let gs = generatorsIn (s .args .generators) (s .args .sites) (now (s .args .targets)) (now (s .args .orders)) in
     let w = lettersIn (s .args .sites) (now (s .args .word)) in
-    let ok = s .pre .1 .1 .1 .1 in (
+    let ok = s .pre .1 .1 .1 .1 .0 in (
       omega arith,
       c .before .before .before .before .copy .ensures ∙ walk-start ok gs,
       c .before .copy2 .ensures ∙ lead-start ok gs,
@@ -83,8 +83,8 @@ slice-aggregate-tested c = sym (here-accepted (c .before .before) .long)
 
 tested-requires : tie.Need-tested-requires Inv-loop μ-loop
 tested-requires c κs =
-    let s = c .before .before .before .before .before .before .before .before .before .before .before .before in
-    (s .pre .0, (s .pre .1 .1 .0, (s .pre .1 .1 .1 .0, (s .pre .1 .1 .1 .1, c .before .before .loop .inv .1))))
+    let s = c .before .before .before .before .before .before .before .before .before .before .before .before .before .before .before in
+    (s .pre .0, (s .pre .1 .1 .0, (s .pre .1 .1 .1 .0, (s .pre .1 .1 .1 .1 .0, c .before .before .loop .inv .1))))
 
 enum-told : tie.Need-enum-told Inv-loop μ-loop
 enum-told c = search needs
@@ -94,7 +94,7 @@ dropped-requires c κs = search needs
 
 returns : tie.Need-returns Inv-loop μ-loop
 returns c =
-    let s = c .before .before .before .before .before .before .before .before .before .before .before .before .before .before .before .before in
+    let s = c .before .before .before .before .before .before .before .before .before .before .before .before .before .before .before .before .before .before .before in
     let l = c .before .before .before .before .before .before .loop in
     let ks = now (s .args .modes) in
     let gs = generatorsIn (s .args .generators) (s .args .sites) (now (s .args .targets)) (now (s .args .orders)) in
@@ -108,7 +108,7 @@ enum-told-2 c = search needs
 
 add-fixing : tie.Need-add-fixing Inv-loop μ-loop
 add-fixing c =
-    let s = c .before .before .before .before .before .before .before .before .before .before .before .before .before .before .before in
+    let s = c .before .before .before .before .before .before .before .before .before .before .before .before .before .before .before .before .before .before in
     let l = c .before .before .before .before .before .loop in
     let gs = generatorsIn (s .args .generators) (s .args .sites) (now (s .args .targets)) (now (s .args .orders)) in
     let w = lettersIn (s .args .sites) (now (s .args .word)) in
@@ -133,12 +133,13 @@ slice-aggregate-advance c = sym (here-accepted (c .before .before .before .befor
 advance-requires : tie.Need-advance-requires Inv-loop μ-loop
 advance-requires c κs =
     let l = c .before .before .before .before .before .before .before .before .before in
-    (l .before .before .before .before .before .before .before .before .before .before .pre .0, here-accepted l)
+    let s = l .before .before .before .before .before .before .before .before .before .before .before .before .before in
+    (s .pre .0, (s .pre .1 .1 .1 .1 .1 .0, (s .pre .1 .1 .1 .1 .1 .1, here-accepted l)))
 
 add-i : tie.Need-add-i Inv-loop μ-loop
 add-i c =
     let l = c .before .before .before .before .before .before .before .before .before .before .before in
-    let s = l .before .before .before .before .before .before .before .before .before .before in
+    let s = l .before .before .before .before .before .before .before .before .before .before .before .before .before in
     omega (arith, s .pre .0 .small, s .pre .1 .0, c .before .before .before .before .before .before .before .before .before .before .loop-test .taken)
 
 loop-less : tie.Need-loop-less Inv-loop μ-loop
@@ -147,13 +148,13 @@ loop-less c = omega (arith, c .before .before .before .before .before .before .b
 loop-again : tie.Need-loop-again Inv-loop μ-loop
 loop-again c =
     let at = c .before .before .before .before .before .before .before .before .before .before .before in
-    let s = at .before .before .before .before .before .before .before .before .before .before in
+    let s = at .before .before .before .before .before .before .before .before .before .before .before .before .before in
     let l = at .loop in
     let ks = now (s .args .modes) in
     let t = s .pre .0 in
     let gs = generatorsIn (s .args .generators) (s .args .sites) (now (s .args .targets)) (now (s .args .orders)) in
     let w = lettersIn (s .args .sites) (now (s .args .word)) in
-    let long = decode-length (s .pre .1 .1 .1 .1) in
+    let long = decode-length (s .pre .1 .1 .1 .1 .0) in
     let lead = c .before .before .before .before .take-less .ensures in
     let test = sym (c .before .before .before .before .before .before .before .before .tested .ensures) in
     let came = c .before .before .before .before .before .before .before .match .came in (
@@ -168,19 +169,19 @@ loop-again c =
 -- every index was tested
 all-tested :
     (c : tie.After-loop Inv-loop μ-loop)
-    → let s = c .before .before .before .before .before .before .before .before .before .before .before in
+    → let s = c .before .before .before .before .before .before .before .before .before .before .before .before .before .before in
     (c .before .loop .i ≡ orderOf (generatorsIn (s .args .generators) (s .args .sites) (now (s .args .targets)) (now (s .args .orders))))
 all-tested c =
-    let s = c .before .before .before .before .before .before .before .before .before .before .before in
+    let s = c .before .before .before .before .before .before .before .before .before .before .before .before .before .before in
     omega (arith, s .pre .1 .0, c .loop-test .left, c .before .loop .inv .0)
 
 invert-requires : tie.Need-invert-requires Inv-loop μ-loop
-invert-requires c κs = c .before .before .before .before .before .before .before .before .before .before .before .pre .0
+invert-requires c κs = c .before .before .before .before .before .before .before .before .before .before .before .before .before .before .pre .0
 
-div-t31 : tie.Need-div-t31 Inv-loop μ-loop
-div-t31 c =
+div-t36 : tie.Need-div-t36 Inv-loop μ-loop
+div-t36 c =
     let o = c .before in
-    let s = o .before .before .before .before .before .before .before .before .before .before .before in
+    let s = o .before .before .before .before .before .before .before .before .before .before .before .before .before .before in
     let l = o .before .loop in
     let gs = generatorsIn (s .args .generators) (s .args .sites) (now (s .args .targets)) (now (s .args .orders)) in
     let w = lettersIn (s .args .sites) (now (s .args .word)) in
@@ -189,7 +190,7 @@ div-t31 c =
 returns-2 : tie.Need-returns-2 Inv-loop μ-loop
 returns-2 c =
     let o = c .before in
-    let s = o .before .before .before .before .before .before .before .before .before .before .before in
+    let s = o .before .before .before .before .before .before .before .before .before .before .before .before .before .before in
     let l = o .before .loop in
     let ks = now (s .args .modes) in
     let gs = generatorsIn (s .args .generators) (s .args .sites) (now (s .args .targets)) (now (s .args .orders)) in
@@ -227,5 +228,5 @@ canonicalize-with-stabilizer-spec =
     loop-less
     loop-again
     invert-requires
-    div-t31
+    div-t36
     returns-2)

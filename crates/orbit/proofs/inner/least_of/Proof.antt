@@ -17,15 +17,15 @@ tables c = accepted-tables (c .args .group) (c .pre .0)
 order-of-requires : tie.Need-order-of-requires
 order-of-requires c κs = search needs
 
-slice-aggregate-canonicalize-odometer : tie.Need-slice-aggregate-canonicalize-odometer
-slice-aggregate-canonicalize-odometer c = search needs
+slice-aggregate-least : tie.Need-slice-aggregate-least
+slice-aggregate-least c = search needs
 
-slice-aggregate-canonicalize-odometer-2 : tie.Need-slice-aggregate-canonicalize-odometer-2
-slice-aggregate-canonicalize-odometer-2 c = search needs
+slice-aggregate-least-2 : tie.Need-slice-aggregate-least-2
+slice-aggregate-least-2 c = search needs
 
-canonicalize-odometer-requires : tie.Need-canonicalize-odometer-requires
+least-requires : tie.Need-least-requires
 unfolding generatorsOf
-canonicalize-odometer-requires c κs = let s = c .before .before .before .before .before .before in (tables s, (s .pre .1, c .before .before .order-of .ensures))
+least-requires c κs = let s = c .before .before .before .before .before .before in (tables s, (s .pre .1, c .before .before .order-of .ensures))
 
 slice-aggregate-invert : tie.Need-slice-aggregate-invert
 slice-aggregate-invert c = search needs
@@ -39,17 +39,17 @@ invert-requires c κs = tables (c .before .before .before .before .before .befor
 returns : tie.Need-returns
 unfolding generatorsOf indexBack
 returns c =
-    let found = c .before .before .before .before .canonicalize-odometer .ensures in
-    (found .0, c .before .invert .ensures ∙ ap (inverse (generatorsOf (c .before .before .before .before .before .before .before .before .before .before .before .args .group))) (found .1))
+    let found = c .before .before .before .before .least .ensures in
+    (found .0, c .before .invert .ensures ∙ ap (inverse (generatorsOf (c .before .before .before .before .before .before .before .before .before .before .before .args .group))) (found .1 .0))
 
 pub least-of-spec : {M : Type 1} → statement M
 least-of-spec =
     tie.close
     (tie.spec
     order-of-requires
-    slice-aggregate-canonicalize-odometer
-    slice-aggregate-canonicalize-odometer-2
-    canonicalize-odometer-requires
+    slice-aggregate-least
+    slice-aggregate-least-2
+    least-requires
     slice-aggregate-invert
     slice-aggregate-invert-2
     invert-requires

@@ -42,17 +42,17 @@ returns c =
     let e = next-finished w (s .pre) (omega arith) in
     (sym e, (sym (ap (orElse (entryWord w) noWord) e), sym (ap (orElse (afterEntry w) w) e)))
 
-slice-aggregate-advance : tie.Need-slice-aggregate-advance
-slice-aggregate-advance c = search needs
+slice-aggregate-step : tie.Need-slice-aggregate-step
+slice-aggregate-step c = search needs
 
-slice-aggregate-advance-2 : tie.Need-slice-aggregate-advance-2
-slice-aggregate-advance-2 c = search needs
+slice-aggregate-step-2 : tie.Need-slice-aggregate-step-2
+slice-aggregate-step-2 c = search needs
 
-slice-aggregate-advance-3 : tie.Need-slice-aggregate-advance-3
-slice-aggregate-advance-3 c = search needs
+slice-aggregate-step-3 : tie.Need-slice-aggregate-step-3
+slice-aggregate-step-3 c = search needs
 
-advance-requires : tie.Need-advance-requires
-advance-requires c κs = let s = c .before .before .before .before .before .before .before .before .before .before in (tables s, word s)
+step-requires : tie.Need-step-requires
+step-requires c κs = let s = c .before .before .before .before .before .before .before .before .before .before in (tables s, word s)
 
 add-t8 : tie.Need-add-t8
 add-t8 c = search needs
@@ -66,7 +66,7 @@ returns-2 c =
       sym e,
       (
         sym (ap (orElse (entryWord w) noWord) e),
-        ap₂ (λ (l : List ℕ) (i : ℕ). record { group = w .group; word = l; index = i }) (c .before .advance .ensures) (add-one (w .index))
+        ap₂ (λ (l : List ℕ) (i : ℕ). record { group = w .group; word = l; index = i }) (c .before .step .ensures) (add-one (w .index))
             ∙ sym (ap (orElse (afterEntry w) w) e),
       ),
     )
@@ -77,9 +77,9 @@ step-of-spec =
     (tie.spec
     order-of-requires
     returns
-    slice-aggregate-advance
-    slice-aggregate-advance-2
-    slice-aggregate-advance-3
-    advance-requires
+    slice-aggregate-step
+    slice-aggregate-step-2
+    slice-aggregate-step-3
+    step-requires
     add-t8
     returns-2)
