@@ -2,14 +2,12 @@
 ghost use mathlib.Core.Path.{_≡_};
 ghost use Prim.Native.Nat.{_*_, _<_};
 ghost use mathlib.Core.Bool.{cond};
-ghost use lib.ListN.{length};
-ghost use Rattle.pauli_word.specs.Limits.{wordLength};
 ghost use Rattle.pauli_word.specs.Word.{less};
 ghost use Rattle.pauli_word.specs.Bytes.{AcceptedWord, lettersIn, bytesOf};
 ghost use Rattle.action.specs.Permutation.{Permutes};
 ghost use Rattle.action.specs.Index.{orderOf, digits};
-ghost use Rattle.action.specs.Orbit.{move as moveBy, stepped, orbitList, least, forward};
-ghost use Rattle.elements.specs.HeldGroup.{generatorsIn, Tables, encodeAll};
+ghost use Rattle.action.specs.Orbit.{move as moveBy, stepped, least, forward};
+ghost use Rattle.elements.specs.HeldGroup.{generatorsIn, Tables};
 use crate::letters;
 use pauli_word::MAX_SITES;
 use pauli_word::Ordering;
@@ -58,34 +56,6 @@ pub fn advance(
         }
         rest = rest / o;
         g += 1;
-    }
-}
-
-// The orbit list: the bytes of one entry for each index.
-pub fn fill_orbit(
-    targets: &[u32],
-    orders: &[u32],
-    generators: usize,
-    sites: usize,
-    order: usize,
-    word: &[u8],
-    list: &mut [u8],
-)
-    requires { ⌜ Tables generators sites (now targets) (now orders) ⌝ }
-    requires { ⌜ AcceptedWord sites (now word) ⌝ }
-    requires { ⌜ order ≡ orderOf (generatorsIn generators sites (now targets) (now orders)) ⌝ }
-    requires { ⌜ length (now list) ≡ wordLength * order ⌝ }
-    ensures { λ _. ⌜ now (list .exit) ≡ encodeAll (orbitList (generatorsIn generators sites (now (targets .entry)) (now (orders .entry))) (lettersIn sites (now (word .entry)))) ⌝ }
-{
-    let mut here = [0u8; WORD_BYTES];
-    pauli_word::inner::copy(word, &mut here);
-    let mut i = 0;
-    while i < order {
-        let at = WORD_BYTES * i;
-        let end = at + WORD_BYTES;
-        pauli_word::inner::copy(&here, &mut list[at..end]);
-        advance(targets, orders, generators, sites, i, &mut here);
-        i += 1;
     }
 }
 

@@ -1,8 +1,8 @@
 -- How planes of machine words compare: two machine words differ first at the lowest bit of their exclusive or, planes at their first machine
 -- word that differs, and what is found so is the order of the words that the planes hold.
 use Prim.Native.Nat.{ℕ, zero, suc, _+_, _-_, _*_, _/_, _%_, _^_, _<_, _≤_}
-use mathlib.Core.Path.{_≡_, refl, sym, ap, ap₂, _∙_}
-use mathlib.Core.Logic.{_⊎_, inl, inr, ⊎-elim}
+use mathlib.Core.Path.{_≡_, refl, sym, ap, _∙_}
+use mathlib.Core.Logic.{⊎-elim}
 use mathlib.Core.Bool.{Bool, true, false, not, xor, false≢true}
 use mathlib.Core.List.{List, [], _∷_, map}
 use native.Mathlib.Nat.{le-of-suc-le-suc, not-suc-le-zero, div-one, pow-succ', div-div-eq-div-mul}
@@ -11,8 +11,8 @@ use native.Mathlib.Omega.{arith}
 use lib.Dec.{eqb}
 use lib.Bits.{bitXor}
 use lib.Count.{trailingZeros, under}
-use lib.ListN.{length, getD, take, drop}
-use lib.Seq.{ext-getD, getD-take, getD-drop}
+use lib.ListN.{length, getD}
+use lib.Seq.{ext-getD}
 use Rattle.pauli_word.specs.declared.Ordering.{Ordering}
 use Rattle.pauli_word.specs.declared.Ordering.the-variants.{Less, Same, Greater}
 use Rattle.pauli_word.specs.Word.{bits, lessBits, less}
@@ -21,8 +21,8 @@ use Rattle.pauli_word.specs.Calls.{orderOfBits, orderOfWords}
 use Rattle.pauli_word.proofs.Bits.{odd-cases, lowBits-length, lowBits-at, number-lowBits}
 use Rattle.pauli_word.proofs.WordOrder.{orElseBy, order-refl, order-append}
 use Rattle.action.specs.Lists.{below}
-use Rattle.packed.specs.Packed.{wordBits, bitAt, bitOf, Clear, lettersBy, lettersAt, LessAt, Compared}
-use Rattle.packed.proofs.Packing.{map-below-at, map-below-length, map-below-cong, xBits-lettersBy, zBits-lettersBy, bit-zero, bitOf-past, bitOf-word}
+use Rattle.packed.specs.Packed.{wordBits, bitAt, bitOf, lettersBy, LessAt, Compared}
+use Rattle.packed.proofs.Packing.{map-below-at, map-below-length, map-below-cong, xBits-lettersBy, zBits-lettersBy, bit-zero, bitOf-word}
 use Rattle.packed.proofs.Shifts.{bit-xor}
 
 -- ---- the exclusive or of two bits
@@ -180,41 +180,6 @@ order-listed Less n f g c = rw (less-listed n f g c .0)
 order-listed Same n f g c = ap (orderOfBits (map f (below n))) (sym (map-below-cong f g n false c)) ∙ order-refl (map f (below n))
 order-listed Greater n f g c = rw (less-listed n g f c .1, less-listed n g f c .0)
 
--- the first difference of two lists
-abbrev LessIn : List Bool → List Bool → Type 0
-LessIn xs ys =
-    (q : ℕ) × (q < length xs) × (q < length ys) × ((p : ℕ) → p < q → getD xs p false ≡ getD ys p false) × (getD xs q false ≡ false) × (getD ys q false ≡ true)
-
-less-ahead : (b : Bool) (xs ys : List Bool) → LessIn xs ys → LessIn (b ∷ xs) (b ∷ ys)
-less-ahead b xs ys (q, lx, ly, same, x, y) = (suc q, omega arith, omega arith, go, x, y)
-  where
-    go : (p : ℕ) → p < suc q → getD (b ∷ xs) p false ≡ getD (b ∷ ys) p false
-    go zero l = refl
-    go (suc p) l = same p (le-of-suc-le-suc l)
-
-less-in : (xs ys : List Bool) → lessBits xs ys ≡ true → LessIn xs ys
-unfolding lessBits
-less-in [] ys e = absurd (false≢true e)
-less-in (x ∷ xs) [] e = absurd (false≢true e)
-less-in (false ∷ xs) (false ∷ ys) e = less-ahead false xs ys (less-in xs ys e)
-less-in (false ∷ xs) (true ∷ ys) e = (0, omega arith, omega arith, λ p h. absurd (not-suc-le-zero h), refl, refl)
-less-in (true ∷ xs) (false ∷ ys) e = absurd (false≢true e)
-less-in (true ∷ xs) (true ∷ ys) e = less-ahead true xs ys (less-in xs ys e)
-
--- lists of bits that are less differ first where the first is false and the second true
-pub less-at : (n : ℕ) (f g : ℕ → Bool) → lessBits (map f (below n)) (map g (below n)) ≡ true → LessAt n f g
-less-at n f g e = go (less-in (map f (below n)) (map g (below n)) e)
-  where
-    go : LessIn (map f (below n)) (map g (below n)) → LessAt n f g
-    go (q, lx, ly, same, x, y) =
-        let h : q < n = rw map-below-length at lx in (
-          q,
-          h,
-          λ p l. let k : p < n = omega arith in sym (map-below-at f n p false k) ∙ same p l ∙ map-below-at g n p false k,
-          sym (map-below-at f n q false h) ∙ x,
-          sym (map-below-at g n q false h) ∙ y,
-        )
-
 -- ---- and the order of words
 
 -- words compare by their X bits and then by their Z bits
@@ -225,96 +190,3 @@ unfolding orderOfWords orderOfBits less bits
 order-letters n x z x′ z′ =
     simp (xBits-lettersBy, zBits-lettersBy)
     (order-append (map x (below n)) (map x′ (below n)) (map z (below n)) (map z′ (below n)) (map-below-length x n ∙ sym (map-below-length x′ n)))
-
--- the bits of the first m machine words
-pub bitOf-take : (m : ℕ) (ws : List ℕ) (q : ℕ) → q < wordBits * m → bitOf (take m ws) q ≡ bitOf ws q
-unfolding bitOf
-bitOf-take m ws q h = ap (λ (x : ℕ). bitAt x (q % wordBits)) (getD-take m ws (q / wordBits) 0 (omega arith))
-
--- the bits of the rest
-pub bitOf-drop : (m : ℕ) (ws : List ℕ) (q : ℕ) → bitOf (drop m ws) q ≡ bitOf ws (wordBits * m + q)
-unfolding bitOf
-bitOf-drop m ws q =
-    let d : m + q / wordBits ≡ (wordBits * m + q) / wordBits = omega arith in
-    let r : q % wordBits ≡ (wordBits * m + q) % wordBits = omega arith in
-    ap (λ (x : ℕ). bitAt x (q % wordBits)) (getD-drop m ws (q / wordBits) 0) ∙ ap₂ (λ (u v : ℕ). bitAt (getD ws u 0) v) d r
-
--- a word in one list of machine words: the X plane in the first m, the Z plane in the rest, if there is any
-module _ (n m : ℕ) (few : n ≤ wordBits * m) where
-  -- the first difference of two such words is in their X planes, or else in their Z planes; the sites hold all the bits of the greater word
-  parts-less : (a b : List ℕ) (k : ℕ) → Clear n (take m b) → Clear n (drop m b) → LessAt k (bitOf a) (bitOf b)
-      → LessAt n (bitOf (take m a)) (bitOf (take m b))
-      ⊎ (((q : ℕ) → q < n → bitOf (take m a) q ≡ bitOf (take m b) q) × LessAt n (bitOf (drop m a)) (bitOf (drop m b)))
-  parts-less a b k cx cz (q, h, same, x, y) = go (decLe (wordBits * m) q)
-    where
-      set-in : (ws : List ℕ) (r : ℕ) → Clear n ws → bitOf ws r ≡ true → r < n
-      set-in ws r c e = inside (decLe n r)
-        where
-          inside : Dec (n ≤ r) → r < n
-          inside (yes l) = absurd (false≢true (sym (c r l) ∙ e))
-          inside (no l) = omega arith
-
-      taken : (p : ℕ) → p < q → p < wordBits * m → bitOf (take m a) p ≡ bitOf (take m b) p
-      taken p l g = bitOf-take m a p g ∙ same p l ∙ sym (bitOf-take m b p g)
-
-      go : Dec (wordBits * m ≤ q)
-          → LessAt n (bitOf (take m a)) (bitOf (take m b))
-          ⊎ (((p : ℕ) → p < n → bitOf (take m a) p ≡ bitOf (take m b) p) × LessAt n (bitOf (drop m a)) (bitOf (drop m b)))
-      go (no g) =
-          let l : q < wordBits * m = omega arith in
-          let t = bitOf-take m b q l ∙ y in
-          inl (q, set-in (take m b) q cx t, λ p i. taken p i (omega arith), bitOf-take m a q l ∙ x, t)
-      go (yes g) =
-          let r = q - wordBits * m in
-          let e : wordBits * m + r ≡ q = omega arith in
-          let t = bitOf-drop m b r ∙ ap (bitOf b) e ∙ y in
-          let z : LessAt n (bitOf (drop m a)) (bitOf (drop m b)) = (
-            r,
-            set-in (drop m b) r cz t,
-            λ p i. bitOf-drop m a p ∙ same (wordBits * m + p) (omega arith) ∙ sym (bitOf-drop m b p),
-            bitOf-drop m a r ∙ ap (bitOf a) e ∙ x,
-            t,
-          ) in
-          inr (λ p i. taken p (omega arith) (omega arith), z)
-
-  -- planes of one length that compare as the same have the same bits everywhere
-  same-everywhere : (a b : List ℕ) → length a ≡ length b → Compared Same (wordBits * length a) (bitOf a) (bitOf b) → (q : ℕ) → bitOf a q ≡ bitOf b q
-  same-everywhere a b l c q = go (decLe (wordBits * length a) q)
-    where
-      go : Dec (wordBits * length a ≤ q) → bitOf a q ≡ bitOf b q
-      go (yes g) = bitOf-past a q g ∙ sym (bitOf-past b q (omega arith))
-      go (no g) = c q (omega arith)
-
-  -- how the X planes and the Z planes compare
-  abbrev orderOfParts : List ℕ → List ℕ → Ordering
-  orderOfParts a b =
-      orElseBy (orderOfBits (map (bitOf (take m a)) (below n)) (map (bitOf (take m b)) (below n)))
-      (orderOfBits (map (bitOf (drop m a)) (below n)) (map (bitOf (drop m b)) (below n)))
-
-  order-parts : (o : Ordering) (a b : List ℕ) → length a ≡ length b → Clear n (take m a) → Clear n (drop m a) → Clear n (take m b) → Clear n (drop m b)
-      → Compared o (wordBits * length a) (bitOf a) (bitOf b) → orderOfParts a b ≡ o
-  order-parts Less a b l cxa cza cxb czb c = go (parts-less a b (wordBits * length a) cxb czb c)
-    where
-      go : LessAt n (bitOf (take m a)) (bitOf (take m b))
-          ⊎ (((p : ℕ) → p < n → bitOf (take m a) p ≡ bitOf (take m b) p) × LessAt n (bitOf (drop m a)) (bitOf (drop m b))) → orderOfParts a b ≡ Less
-      go (inl d) = rw (order-listed Less n (bitOf (take m a)) (bitOf (take m b)) d)
-      go (inr d) = rw (order-listed Same n (bitOf (take m a)) (bitOf (take m b)) (d .0)) (order-listed Less n (bitOf (drop m a)) (bitOf (drop m b)) (d .1))
-  order-parts Same a b l cxa cza cxb czb c =
-      let e = same-everywhere a b l c in
-      rw (order-listed Same n (bitOf (take m a)) (bitOf (take m b)) (λ q h. bitOf-take m a q (omega arith) ∙ e q ∙ sym (bitOf-take m b q (omega arith))))
-      (order-listed Same n (bitOf (drop m a)) (bitOf (drop m b)) (λ q h. bitOf-drop m a q ∙ e (wordBits * m + q) ∙ sym (bitOf-drop m b q)))
-  order-parts Greater a b l cxa cza cxb czb c = go (parts-less b a (wordBits * length a) cxa cza c)
-    where
-      go : LessAt n (bitOf (take m b)) (bitOf (take m a))
-          ⊎ (((p : ℕ) → p < n → bitOf (take m b) p ≡ bitOf (take m a) p) × LessAt n (bitOf (drop m b)) (bitOf (drop m a))) → orderOfParts a b ≡ Greater
-      go (inl d) = rw (order-listed Greater n (bitOf (take m a)) (bitOf (take m b)) d)
-      go (inr d) =
-          rw (order-listed Same n (bitOf (take m a)) (bitOf (take m b)) (λ q h. sym (d .0 q h)))
-          (order-listed Greater n (bitOf (drop m a)) (bitOf (drop m b)) (d .1))
-
-  -- what `compare` finds of two such words is the order of their letters
-  pub order-planes : (o : Ordering) (a b : List ℕ) → length a ≡ length b → Clear n (take m a) → Clear n (drop m a) → Clear n (take m b) → Clear n (drop m b)
-      → Compared o (wordBits * length a) (bitOf a) (bitOf b)
-      → orderOfWords (lettersAt n (take m a) (drop m a)) (lettersAt n (take m b) (drop m b)) ≡ o
-  order-planes o a b l cxa cza cxb czb c =
-      order-letters n (bitOf (take m a)) (bitOf (drop m a)) (bitOf (take m b)) (bitOf (drop m b)) ∙ order-parts o a b l cxa cza cxb czb c

@@ -142,19 +142,19 @@ module _ (m g : ℕ) (ws new : List ℕ) (long : length new ≡ m) (room : m * g
 
 -- the masks before g
 abbrev pub MasksTo : ℕ → ℕ → List ℕ → List ℕ → List ℕ → ℕ → Type 0
-MasksTo n m lows others masks g = (h : ℕ) → h < g → Mask (keepAt (getD lows h 0) (getD lows h 0 + getD others h 0) n) (part m h masks)
+MasksTo n m strides rests masks g = (h : ℕ) → h < g → Mask (keepAt (getD strides h 0) (getD strides h 0 + getD rests h 0) n) (part m h masks)
 
 -- the mask of generator g put behind those before it
-pub masks-next : (n m g : ℕ) (lows others masks new : List ℕ) → length new ≡ m → m * g + m ≤ length masks → MasksTo n m lows others masks g
-    → Mask (keepAt (getD lows g 0) (getD lows g 0 + getD others g 0) n) new
-    → MasksTo n m lows others (take (m * g) masks ++ (new ++ drop (m * g + m - m * g) (drop (m * g) masks))) (g + 1)
-masks-next n m g lows others masks new long room before own =
-    below-more (λ h. Mask (keepAt (getD lows h 0) (getD lows h 0 + getD others h 0) n) (part m h (replaced m g masks new long room))) g
+pub masks-next : (n m g : ℕ) (strides rests masks new : List ℕ) → length new ≡ m → m * g + m ≤ length masks → MasksTo n m strides rests masks g
+    → Mask (keepAt (getD strides g 0) (getD strides g 0 + getD rests g 0) n) new
+    → MasksTo n m strides rests (take (m * g) masks ++ (new ++ drop (m * g + m - m * g) (drop (m * g) masks))) (g + 1)
+masks-next n m g strides rests masks new long room before own =
+    below-more (λ h. Mask (keepAt (getD strides h 0) (getD strides h 0 + getD rests h 0) n) (part m h (replaced m g masks new long room))) g
     (λ h l. rw (part-before m g masks new long room h l) (before h l))
     (rw (part-own m g masks new long room) own)
 
 -- the masks of all generators: the part that generator g is lent
-module _ {k n m : ℕ} {lows others masks : List ℕ} (few : k ≤ maxGenerators) (ms : Masks k n m lows others masks) (g : ℕ) (h : g < k) where
+module _ {k n m : ℕ} {strides rests masks : List ℕ} (few : k ≤ maxGenerators) (ms : Masks k n m strides rests masks) (g : ℕ) (h : g < k) where
   -- there is room for a generator's part
   pub lent-inside : m * g + m ≤ length masks
   lent-inside = omega (arith, part-inside m g (omega arith), ms .room)
@@ -164,5 +164,5 @@ module _ {k n m : ℕ} {lows others masks : List ℕ} (few : k ≤ maxGenerators
   lent-length = part-length m g masks lent-inside
 
   -- it is the mask of the sites that keep their bits in their block
-  pub lent-keep : Mask (keepAt (getD lows g 0) (getD lows g 0 + getD others g 0) n) (lent m g masks)
+  pub lent-keep : Mask (keepAt (getD strides g 0) (getD strides g 0 + getD rests g 0) n) (lent m g masks)
   lent-keep = rw (lent-part m g masks) (ms .each g h)

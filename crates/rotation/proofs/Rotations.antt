@@ -35,14 +35,6 @@ use Rattle.rotation.specs.Rotation.{rotation}
 
 -- ---- lists made of the numbers below n
 
--- at place q of the values of f at the numbers below n is f's value at q
-pub getD-map-below : {A : Type 0} (f : ℕ → A) (d : A) (n q : ℕ) → q < n → getD (map f (below n)) q d ≡ f q
-getD-map-below f d n q h = map-below-at f n q d h
-
--- there are n of them
-pub length-map-below : {A : Type 0} (f : ℕ → A) (n : ℕ) → length (map f (below n)) ≡ n
-length-map-below f n = map-below-length f n
-
 -- ---- sites
 
 -- a rotation by s modulo b is one by s

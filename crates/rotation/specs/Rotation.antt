@@ -43,10 +43,10 @@ pub record Shapes (k n : ℕ) (targets strides rests : List ℕ) : Type 0 where
 abbrev pub part : ℕ → ℕ → List ℕ → List ℕ
 part m g ws = take m (drop (m * g) ws)
 
--- k masks, m machine words each: of the sites that have at least so many before them in their block, and the block has so many more
-pub record Masks (k n m : ℕ) (lows others masks : List ℕ) : Type 0 where
+-- a mask for each of the k generators, m machine words each: of the sites that take their bit from a stride below
+pub record Masks (k n m : ℕ) (strides rests masks : List ℕ) : Type 0 where
   pub room : maxGenerators * m ≤ length masks
-  pub each : (g : ℕ) → g < k → Mask (keepAt (getD lows g 0) (getD lows g 0 + getD others g 0) n) (part m g masks)
+  pub each : (g : ℕ) → g < k → Mask (keepAt (getD strides g 0) (getD strides g 0 + getD rests g 0) n) (part m g masks)
 
 -- a word of n sites in planes of m machine words; without a Z plane each Z bit is 0
 pub record Planes (n m : ℕ) (xs zs : List ℕ) : Type 0 where
