@@ -63,7 +63,7 @@ size_t gomurin_from_text(const uint8_t *text, size_t text_length, size_t *sites,
 size_t gomurin_to_text(size_t n, const uint8_t *word, size_t word_length, size_t *letters, uint8_t text[GOMURIN_MAX_SITES],
                        size_t values[GOMURIN_VALUES]);
 
-/* The weight of a word of n sites: the ones of both planes together. */
+/* The weight of a word of n sites: the number of sites whose letter is other than I. */
 size_t gomurin_weight(size_t n, const uint8_t *word, size_t word_length, size_t *weight, size_t values[GOMURIN_VALUES]);
 
 /* How word a stands to word b, both of n sites: -1 less, 0 the same, 1 greater. At the first bit that differs, reading the X plane from site 0 and

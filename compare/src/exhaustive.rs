@@ -65,7 +65,8 @@ pub fn cases() -> Vec<Case> {
 fn word_case(line: &Line, text: Vec<u8>) -> Case {
     let orders = orders(line);
     let (order, places) = (orders.iter().product::<usize>(), orders.len());
-    let mut case = vec![line.clone(), Line::Word(text), Line::Text, Line::Canonicalize, Line::WithIndex, Line::WithShift { places }];
+    let mut case = vec![line.clone(), Line::Word(text), Line::Text, Line::Weight];
+    case.extend([Line::Canonicalize, Line::WithIndex, Line::WithShift { places }]);
     case.extend([Line::OrbitList { bytes: WORD_BYTES * order }, Line::Orbit, Line::Next(order + 2)]);
     for modes in mode_lists(&orders) {
         case.extend([Line::Modes(modes), Line::Sector { places }]);

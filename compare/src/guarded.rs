@@ -13,7 +13,7 @@ const SITES: usize = 6;
 const ORDER: usize = 6;
 const GENERATORS: usize = 2;
 const BASE: Line = Line::Lattice(Lattice::Torus2(3, 2));
-const TEXT: &[u8] = b"XIZZIX";
+const TEXT: &[u8] = b"XIYZIX";
 
 /// All combinations of a member of each of two lists of line sequences, one after the other.
 fn cross(left: &[Case], right: &[Case]) -> Vec<Case> {
@@ -49,7 +49,7 @@ fn texts() -> Vec<Case> {
         let letters = vec![b'X'; length];
         texts.extend([letters.clone(), [b"_", &letters[1..]].concat(), [&letters[1..], b"_"].concat()]);
     }
-    texts.into_iter().map(|text| vec![Line::Word(text), Line::Text]).collect()
+    texts.into_iter().map(|text| vec![Line::Word(text), Line::Text, Line::Weight]).collect()
 }
 
 /// Good and bad bytes of a word of SITES sites.
@@ -335,9 +335,10 @@ const SHAPES: [&str; 24] = [
 ];
 
 #[rustfmt::skip]
-const ROWS: [&str; 17] = [
-    "XIII 1 0 0", "XIXI 1 0 0", "XIXI -2 0 0", "XIII 0 1 0", "ZZZZ 0 0 -2147483648", "IIII 2147483647 0 0", "IIII 2147483648 0 0",
-    "IIII -0 0 0", "IIII 01 0 0", "XIII 1 0", "XIII 1 0 0 0", " 1 0 0", "XIIQ 1 0 0", "XII 0 0 0", "XIIII 0 0 0", "_III x 0 0", "",
+const ROWS: [&str; 20] = [
+    "XIII 1 0 0", "XIXI 1 0 0", "XIXI -2 0 0", "XYZI 1 0 0", "YIYI 1 0 0", "YIYI -2 0 0", "XIII 0 1 0", "ZZZZ 0 0 -2147483648",
+    "IIII 2147483647 0 0", "IIII 2147483648 0 0", "IIII -0 0 0", "IIII 01 0 0", "XIII 1 0", "XIII 1 0 0 0", " 1 0 0", "XIIQ 1 0 0",
+    "XII 0 0 0", "XIIII 0 0 0", "_III x 0 0", "",
 ];
 
 /// Every shape with every row, and every row after every other, with and without a line end at the end.
@@ -364,7 +365,7 @@ fn sheet_texts() -> Vec<String> {
 /// The longest sheet that there may be, with a last line that is whole or not, and a longer one.
 fn long_sheets() -> [String; 3] {
     let head = "shape a b c\nchain 5 0 0\nword k0 k1 k2\n";
-    let row = "XIZII 1 0 0\n";
+    let row = "XIYII 1 0 0\n";
     let whole = head.to_string() + &row.repeat((MAX_SHEET - head.len()) / row.len());
     let padded = |length: usize| whole.clone() + &"X".repeat(length - whole.len());
     [whole.clone(), padded(MAX_SHEET), padded(MAX_SHEET + 1)]

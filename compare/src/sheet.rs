@@ -1,4 +1,4 @@
-//! What a sheet prints, by document 01 and the listed Rust. Sheets are compared on words without a Y, whose weight both count alike.
+//! What a sheet prints, by document 01 and the listed Rust.
 
 use crate::cases::*;
 use crate::rust::{lattice_group, read_text};

@@ -1,13 +1,10 @@
-//! Words: random, sparse, and periodic ones; and the cases that read, write and compare them.
+//! Words: random, sparse, and periodic ones; and the cases that read, write, weigh and compare them.
 
 use crate::cases::*;
 use crate::groups::{Bounds, element, site_count};
 use crate::random::Random;
 use crate::rust::{bytes, read_text};
 use ppvm_pauli_sum::symmetry::group::TranslationGroup;
-
-/// The Rust counts a Y once and document 01 twice, so that weights are not asked for. Once both count alike this becomes true.
-const ASK_WEIGHT: bool = false;
 
 const LETTERS: [u8; 4] = *b"IXYZ";
 
@@ -59,14 +56,11 @@ pub fn word_bytes(text: &[u8]) -> Vec<u8> {
     bytes(&read_text(text).unwrap_or_else(|_| unreachable!()))
 }
 
-/// A word from text and back, and its order among others.
+/// A word from text and back, its weight, and its order among others.
 pub fn case(random: &mut Random, bounds: Bounds) -> Case {
     let sites = site_count(random, bounds.sites);
     let first = text(random, sites);
-    let mut case = vec![Line::Word(first.clone()), Line::Text];
-    if ASK_WEIGHT {
-        case.push(Line::Weight);
-    }
+    let mut case = vec![Line::Word(first.clone()), Line::Text, Line::Weight];
     for other in [neighbour(random, &first), neighbour(random, &first), text(random, sites)] {
         case.push(Line::Compare(word_bytes(&other)));
     }

@@ -8,7 +8,7 @@ use mathlib.Core.Logic.{_⊎_, inl, inr, ⊎-elim}
 use mathlib.Core.Bool.{Bool, true, false, cond, false≢true, and-eq-true-iff, _&&_, and-assoc}
 use mathlib.Core.List.{List, [], _∷_, _++_, map, head-eq-of-cons-eq, tail-eq-of-cons-eq}
 use lib.Dec.{eqb}
-use lib.ListN.{length, length-map}
+use lib.ListN.{length, getD, length-map}
 use borrow.Author.Tests.{eqb-true, eq-eqb}
 use Rattle.action.specs.Arithmetic.{product}
 use Rattle.action.specs.Lists.{from, below, sameNumbers, Member, select, count, every, total, prefixed, choices, NoRepeats}
@@ -36,6 +36,11 @@ noRepeats-from : (n a : ℕ) → NoRepeats (from a n)
 unfolding from
 noRepeats-from zero a = tt
 noRepeats-from (suc n) a = (λ h. let k : suc a ≤ a = of-member-from n (suc a) a h .0 in omega arith, noRepeats-from n (suc a))
+
+from-suc : (n a : ℕ) → from (suc a) n ≡ map suc (from a n)
+unfolding from
+from-suc zero a = refl
+from-suc (suc n) a = ap (λ (l : List ℕ). suc a ∷ l) (from-suc n (suc a))
 
 length-from : (n a : ℕ) → length (from a n) ≡ n
 unfolding from
@@ -259,6 +264,16 @@ module _ {A B : Type 0} where
           u .0 (rw (inj a (k .0) (inl refl) (inr (k .1)) (k .2)) (k .1))
 
 module _ {A : Type 0} where
+  -- counting by places is counting by members
+  pub count-places : (p : A → Bool) (d : A) (xs : List A) → count (λ q. p (getD xs q d)) (below (length xs)) ≡ count p xs
+  unfolding count below from
+  count-places p d [] = refl
+  count-places p d (a ∷ xs) =
+      ap (λ (n : ℕ). cond (p a) 1 0 + n)
+      (ap (count (λ q. p (getD (a ∷ xs) q d))) (from-suc (length xs) 0)
+      ∙ count-map (λ q. p (getD (a ∷ xs) q d)) suc (below (length xs))
+      ∙ count-places p d xs)
+
   -- ys without the member at one place
   without : (a : A) (ys : List A) → Member a ys → List A
   without a [] h = []

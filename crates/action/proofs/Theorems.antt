@@ -10,17 +10,18 @@ use mathlib.Core.Bool.{Bool, true, false}
 use mathlib.Core.List.{List}
 use lib.IntN.{ℤ, pos, negsuc}
 use lib.ListN.{length, getD}
-use Rattle.pauli_word.specs.Word.{I, Word, bits, ones, same, less, weight}
+use Rattle.pauli_word.specs.Word.{I, Word, bits, same, less, weight}
 use Rattle.pauli_word.proofs.WordOrder as WordOrder
-use Rattle.pauli_word.proofs.Ones as Ones
 use Rattle.action.specs.Arithmetic.{product}
 use Rattle.action.specs.Lists.{Member, NoRepeats}
+use Rattle.action.specs.Support.{support}
 use Rattle.action.specs.Permutation.{Generator, target, sends, after, exactOrder, Permutes, Valid}
 use Rattle.action.specs.Lattice.{shifts, chain, ladder, torus2, torus3}
 use Rattle.action.specs.Index.{orderOf, digits, Digits, index, addDigits, add, inverse}
 use Rattle.action.specs.Orbit.{move, reach, stepped, orbit, isIn, least, forward, indexBack, fixes, fixing, orbitSize}
 use Rattle.action.specs.Sector.{modulus, reduced, numerator, reducedModes, reducedDigits, Modes, Character, keeps}
 use Rattle.action.specs.Count.{allWords, allModes, representatives, keptLists, keptPairs}
+use Rattle.action.proofs.Support as Support
 use Rattle.action.proofs.ExactOrders as Order
 use Rattle.action.proofs.Move as Move
 use Rattle.action.proofs.Index as Index
@@ -32,7 +33,8 @@ use Rattle.action.proofs.Kept as Kept
 use Rattle.action.proofs.Pairs as Pairs
 use Rattle.action.proofs.Lattice as Lattice
 
--- ---- 1 Words: the order of words of one length is strict and total, `same` is equality, and the weight counts ones
+-- ---- 1 Words: the order of words of one length is strict and total, `same` is equality, and the weight counts the sites whose letter is other
+-- than I
 
 pub less-irrefl : (w : Word) → less w w ≡ false
 less-irrefl = WordOrder.less-irrefl
@@ -50,9 +52,15 @@ same-equal v w = (WordOrder.same-eq v w, λ e. rw e (WordOrder.same-refl w))
 pub bits-injective : (v w : Word) → length v ≡ length w → bits v ≡ bits w → v ≡ w
 bits-injective = WordOrder.bits-injective
 
--- the weight is the number of ones of both planes: a Y counts two
-pub weight-ones : (w : Word) → weight w ≡ ones (bits w)
-weight-ones = Ones.weight-ones
+-- the weight is the number of sites of the support, which lists the sites whose letter is other than I, once each
+pub weight-support : (w : Word) → weight w ≡ length (support w)
+weight-support = Support.weight-support
+
+pub support-all : (w : Word) (q : ℕ) → Member q (support w) ↔ ((q < length w) × (getD w q I ≡ I → ⊥))
+support-all = Support.support-all
+
+pub support-once : (w : Word) → NoRepeats (support w)
+support-once = Support.support-once
 
 -- ---- 2 Permutations: a move takes each letter to its site's target. The exact order, the least common multiple of the cycle lengths, is the
 -- least positive number of applications that moves every site back

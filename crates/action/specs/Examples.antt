@@ -45,18 +45,18 @@ table =
     ∷ kept (chain 2) 2 (pos 0 ∷ []) 10
     ∷ kept (chain 2) 2 (pos 1 ∷ []) 6
     -- both legs shift along their length
-    ∷ line (ladder 2 2) (X ∷ I ∷ I ∷ Y ∷ []) (pos 1 ∷ []) (I ∷ X ∷ Y ∷ I ∷ []) 1 2 3 true
-    ∷ line (ladder 2 2) (X ∷ X ∷ Y ∷ Y ∷ []) (pos 1 ∷ []) (X ∷ X ∷ Y ∷ Y ∷ []) 0 1 6 false
-    ∷ line (ladder 3 2) (X ∷ I ∷ I ∷ Y ∷ I ∷ I ∷ []) (pos 1 ∷ []) (I ∷ I ∷ X ∷ I ∷ I ∷ Y ∷ []) 1 3 3 true
+    ∷ line (ladder 2 2) (X ∷ I ∷ I ∷ Y ∷ []) (pos 1 ∷ []) (I ∷ X ∷ Y ∷ I ∷ []) 1 2 2 true
+    ∷ line (ladder 2 2) (X ∷ X ∷ Y ∷ Y ∷ []) (pos 1 ∷ []) (X ∷ X ∷ Y ∷ Y ∷ []) 0 1 4 false
+    ∷ line (ladder 3 2) (X ∷ I ∷ I ∷ Y ∷ I ∷ I ∷ []) (pos 1 ∷ []) (I ∷ I ∷ X ∷ I ∷ I ∷ Y ∷ []) 1 3 2 true
     ∷ line (torus2 2 2) (X ∷ I ∷ I ∷ I ∷ []) (pos 0 ∷ pos 0 ∷ []) (I ∷ I ∷ I ∷ X ∷ []) 3 4 1 true
     ∷ line (torus2 2 2) (X ∷ X ∷ I ∷ I ∷ []) (pos 0 ∷ pos 1 ∷ []) (I ∷ I ∷ X ∷ X ∷ []) 2 2 2 true
     ∷ line (torus2 2 2) (X ∷ X ∷ I ∷ I ∷ []) (pos 1 ∷ pos 0 ∷ []) (I ∷ I ∷ X ∷ X ∷ []) 2 2 2 false
-    ∷ line (torus2 2 3) (Y ∷ Y ∷ I ∷ I ∷ I ∷ I ∷ []) (pos 0 ∷ pos 1 ∷ []) (I ∷ I ∷ I ∷ I ∷ Y ∷ Y ∷ []) 2 3 4 true
-    ∷ line (torus2 2 3) (Y ∷ Y ∷ I ∷ I ∷ I ∷ I ∷ []) (pos 1 ∷ pos 0 ∷ []) (I ∷ I ∷ I ∷ I ∷ Y ∷ Y ∷ []) 2 3 4 false
+    ∷ line (torus2 2 3) (Y ∷ Y ∷ I ∷ I ∷ I ∷ I ∷ []) (pos 0 ∷ pos 1 ∷ []) (I ∷ I ∷ I ∷ I ∷ Y ∷ Y ∷ []) 2 3 2 true
+    ∷ line (torus2 2 3) (Y ∷ Y ∷ I ∷ I ∷ I ∷ I ∷ []) (pos 1 ∷ pos 0 ∷ []) (I ∷ I ∷ I ∷ I ∷ Y ∷ Y ∷ []) 2 3 2 false
     -- index 5, digits 1 and 2, fixes the word: its numerator is 1 * 2 + 2 * 1 of 4, a whole turn
     ∷ line (torus2 2 4) (X ∷ I ∷ I ∷ I ∷ I ∷ X ∷ I ∷ I ∷ []) (pos 1 ∷ pos 1 ∷ []) (I ∷ I ∷ I ∷ X ∷ I ∷ I ∷ X ∷ I ∷ []) 7 4 2 true
     ∷ line (torus2 2 4) (X ∷ I ∷ I ∷ I ∷ I ∷ X ∷ I ∷ I ∷ []) (pos 0 ∷ pos 1 ∷ []) (I ∷ I ∷ I ∷ X ∷ I ∷ I ∷ X ∷ I ∷ []) 7 4 2 false
-    ∷ line (torus3 2 3 2) (X ∷ Z ∷ I ∷ I ∷ I ∷ I ∷ I ∷ I ∷ Y ∷ I ∷ I ∷ I ∷ []) (pos 0 ∷ pos 0 ∷ pos 0 ∷ []) (I ∷ I ∷ I ∷ I ∷ I ∷ Y ∷ I ∷ I ∷ Z ∷ X ∷ I ∷ I ∷ []) 11 12 4 true
+    ∷ line (torus3 2 3 2) (X ∷ Z ∷ I ∷ I ∷ I ∷ I ∷ I ∷ I ∷ Y ∷ I ∷ I ∷ I ∷ []) (pos 0 ∷ pos 0 ∷ pos 0 ∷ []) (I ∷ I ∷ I ∷ I ∷ I ∷ Y ∷ I ∷ I ∷ Z ∷ X ∷ I ∷ I ∷ []) 11 12 3 true
     ∷ line (torus3 2 3 2) (X ∷ I ∷ I ∷ I ∷ I ∷ I ∷ I ∷ X ∷ I ∷ I ∷ I ∷ I ∷ []) (pos 1 ∷ pos 0 ∷ pos 1 ∷ []) (I ∷ I ∷ I ∷ I ∷ I ∷ X ∷ I ∷ I ∷ I ∷ I ∷ X ∷ I ∷ []) 3 6 2 true
     ∷ line (torus3 2 3 2) (X ∷ I ∷ I ∷ I ∷ I ∷ I ∷ I ∷ X ∷ I ∷ I ∷ I ∷ I ∷ []) (pos 0 ∷ pos 0 ∷ pos 1 ∷ []) (I ∷ I ∷ I ∷ I ∷ I ∷ X ∷ I ∷ I ∷ I ∷ I ∷ X ∷ I ∷ []) 3 6 2 false
     -- equal generators count as two

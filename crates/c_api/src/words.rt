@@ -53,7 +53,7 @@ pub extern "C" fn gomurin_to_text(
     told::number(answer, letters, values)
 }
 
-// The weight of a word of n sites: the ones of both planes together.
+// The weight of a word of n sites: the number of sites whose letter is other than I.
 #[no_mangle]
 pub extern "C" fn gomurin_weight(
     n: usize,

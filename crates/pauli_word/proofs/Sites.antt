@@ -1,6 +1,6 @@
 -- Loops over the sites of a word: what one site more adds to its weight, to its text and to a list that is filled from the front.
 use Prim.Native.Nat.{ℕ, suc, _+_, _-_, _≤_, _<_}
-use mathlib.Core.Path.{_≡_, sym, ap, ap₂, _∙_}
+use mathlib.Core.Path.{_≡_, refl, sym, ap, ap₂, _∙_}
 use mathlib.Core.Bool.{Bool, false}
 use mathlib.Core.List.{List, [], _∷_, _++_, append-assoc}
 use native.Mathlib.Nat.{add-zero, zero-add, add-assoc, le-of-lt, lt-of-lt-of-le}
@@ -39,11 +39,30 @@ unfolding weight
 weight-next w q h =
     ap weight (take-next w q I h) ∙ weight-append (take q w) (getD w q I ∷ []) ∙ ap (λ (k : ℕ). weight (take q w) + k) (add-zero (letterWeight (getD w q I)))
 
-pub letterWeight-small : (a : Letter) → letterWeight a ≤ 2
+-- a letter counts if it is not written as an I
+pub letter-counts : (a : Letter) → (glyph a ≡ glyph I → ⊥) → letterWeight a ≡ 1
+letter-counts I h = absurd (h refl)
+letter-counts X h = refl
+letter-counts Y h = refl
+letter-counts Z h = refl
+
+pub letter-passed : (a : Letter) → glyph a ≡ glyph I → letterWeight a ≡ 0
+letter-passed I e = refl
+letter-passed X e = omega arith
+letter-passed Y e = omega arith
+letter-passed Z e = omega arith
+
+pub letterWeight-small : (a : Letter) → letterWeight a ≤ 1
 letterWeight-small I = omega arith
 letterWeight-small X = omega arith
 letterWeight-small Y = omega arith
 letterWeight-small Z = omega arith
+
+-- a weight is at most the number of sites
+pub weight-small : (w : Word) → weight w ≤ length w
+unfolding weight
+weight-small [] = omega arith
+weight-small (a ∷ w) = omega (arith, letterWeight-small a, weight-small w)
 
 -- ---- the sites of an accepted word
 

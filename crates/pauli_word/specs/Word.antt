@@ -38,11 +38,6 @@ abbrev pub bit : Bool → ℕ
 bit false = 0
 bit true = 1
 
--- how many bits are set
-unfoldable pub ones : List Bool → ℕ
-ones [] = 0
-ones (b ∷ bs) = bit b + ones bs
-
 -- whether two bits are the same
 abbrev pub sameBit : Bool → Bool → Bool
 sameBit true b = b
@@ -72,11 +67,11 @@ unfoldable pub less : Word → Word → Bool
 unfolding lessBits bits
 less v w = lessBits (bits v) (bits w)
 
--- the ones among a letter's two bits: a Y counts two
+-- 1 for a letter other than I
 abbrev pub letterWeight : Letter → ℕ
-letterWeight a = bit (xBit a) + bit (zBit a)
+letterWeight a = bit (not (sameLetter a I))
 
--- the ones of both planes together
+-- the number of sites whose letter is other than I
 unfoldable pub weight : Word → ℕ
 weight [] = 0
 weight (a ∷ w) = letterWeight a + weight w

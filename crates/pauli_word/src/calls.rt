@@ -50,7 +50,7 @@ pub fn spelled(n: usize, word: &[u8]) -> [u8; MAX_SITES]
     text
 }
 
-// The weight of an accepted word.
+// The weight of an accepted word: one for each letter other than I.
 pub fn weighed(n: usize, word: &[u8]) -> usize
     requires { ⌜ AcceptedWord n (now word) ⌝ }
     ensures { λ r. ⌜ r ≡ weight (lettersIn n (now (word .entry))) ⌝ }
@@ -59,7 +59,9 @@ pub fn weighed(n: usize, word: &[u8]) -> usize
     let mut q = 0;
     while q < n {
         let s = inner::site_at(word, q);
-        sum += letter::weighed(s.x, s.z);
+        if letter::spelled(s.x, s.z) != b'I' {
+            sum += 1;
+        }
         q += 1;
     }
     sum

@@ -1,6 +1,6 @@
-// One letter: its byte in a text, its two bits, its weight.
+// One letter: its byte in a text, its two bits.
 ghost use mathlib.Core.Path.{_≡_};
-ghost use Rattle.pauli_word.specs.Word.{letterOf, letterWeight};
+ghost use Rattle.pauli_word.specs.Word.{letterOf};
 ghost use Rattle.pauli_word.specs.Text.{glyph};
 ghost use Rattle.pauli_word.specs.Calls.{letterBits};
 
@@ -33,16 +33,5 @@ pub fn spelled(x: bool, z: bool) -> u8
         if z { b'Y' } else { b'X' }
     } else {
         if z { b'Z' } else { b'I' }
-    }
-}
-
-// What the letter with these bits adds to a word's weight: its ones.
-pub fn weighed(x: bool, z: bool) -> usize
-    ensures { λ r. ⌜ r ≡ letterWeight (letterOf x z) ⌝ }
-{
-    if x {
-        if z { 2 } else { 1 }
-    } else {
-        if z { 1 } else { 0 }
     }
 }

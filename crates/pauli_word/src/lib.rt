@@ -98,7 +98,7 @@ pub fn to_text(n: usize, word: &[u8]) -> WordText
     }
 }
 
-// The weight of a word of n sites: the ones of both planes together.
+// The weight of a word of n sites: the number of sites whose letter is other than I.
 pub fn weight(n: usize, word: &[u8]) -> Number
     ensures answer { λ r. ⌜ outcomeOfNumber r ≡ weightOutcome n (now (word .entry)) ⌝ }
 {

@@ -18,11 +18,12 @@ use Rattle.outcome.specs.declared.Number.the-variants as Number
 use Rattle.outcome.proofs.Outcomes.{refused-apart, verdict-fine, call-answers}
 use Rattle.pauli_word.specs.Limits.{maxSites, planeLength}
 use Rattle.outcome.specs.Outcome.{answer, verdict, orElse, outcomeOfNumber}
-use Rattle.pauli_word.specs.Word.{Letter, I, X, Y, Z, Word, letterWeight, weight}
+use Rattle.pauli_word.specs.Word.{Word, weight}
 use Rattle.pauli_word.specs.Bytes.{AcceptedWord, lettersIn, bytesOf}
 use Rattle.pauli_word.specs.Text.{letter, glyph, lettersAlone, readText, spell, firstOther}
 use Rattle.pauli_word.specs.Calls.{wordChecks, fromTextBytes, toTextOutcome, toTextBytes, weightOutcome}
 use Rattle.pauli_word.proofs.Words.{decode-length, decode-encode, encode-accepted}
+use Rattle.pauli_word.proofs.Sites.{weight-small}
 use Rattle.pauli_word.proofs.Checks.{accepted-passes}
 use Rattle.pauli_word.proofs.Texts.{spell-readText, no-other}
 use Rattle.action.specs.Lists.{every, sameNumbers}
@@ -199,18 +200,6 @@ module _ (n : ℕ) (bytes : List ℕ) (ok : AcceptedWord n bytes) where
 
   pub weighed : {r : Number} {k : ℕ} → outcomeOfNumber r ≡ weightOutcome n bytes → r ≡ Number.Value k → k ≡ weight (lettersIn n bytes)
   weighed {r} {k} e f = let g : answer k ≡ answer (weight (lettersIn n bytes)) = sym (ap outcomeOfNumber f) ∙ e ∙ weighs in cc
-
--- a letter has two bits
-letter-light : (a : Letter) → letterWeight a ≤ 2
-letter-light I = omega arith
-letter-light X = omega arith
-letter-light Y = omega arith
-letter-light Z = omega arith
-
-pub weight-small : (w : Word) → weight w ≤ 2 * length w
-unfolding weight
-weight-small [] = omega arith
-weight-small (a ∷ w) = omega (arith, letter-light a, weight-small w)
 
 -- the word that a text of n letters writes
 module _ (n : ℕ) (text bytes : List ℕ) (alone : lettersAlone text ≡ true) (long : length text ≡ n) (few : n ≤ maxSites)

@@ -21,7 +21,8 @@ use Rattle.text.specs.Text.{decimal, modeOf, maxWritten}
 use Rattle.text.proofs.Pieces.{four-parts}
 use Rattle.sheet_lines.specs.Lines.{zeroText, fields, field, valueChecks}
 use Rattle.sheet_rows.specs.Rows.{oneText, missing, joined, row, lineRow, rowFields, numbersRoom, spread}
-use Rattle.sheet_rows.proofs.Rows.{weight-small, checked}
+use Rattle.pauli_word.proofs.Sites.{weight-small}
+use Rattle.sheet_rows.proofs.Rows.{checked}
 use Rattle.text.proofs.Decimals.{written-short}
 use Rattle.momentum.specs.Calls.{Row, decision, kept, dropped}
 use Rattle.pauli_word.specs.Limits.{maxSites}
