@@ -1,4 +1,4 @@
-/* The README's first table through the library: the whole sheet by one call, and then its first row by one call for each column.
+/* The README's first table through the library: the whole sheet by one call, and then its first two rows by one call for each column.
  *
  *   rt staticlib c_api
  *   cc -Iinclude examples-c/first_table.c target/staticlib/libc_api.a -o first_table && ./first_table
@@ -37,17 +37,19 @@ static void whole_sheet(void)
     fwrite(table, 1, length, stdout);
 }
 
-static void first_row(void)
+/* The row of a word of 4 letters under a mode. */
+static void one_row(const char *letters, int32_t mode)
 {
     /* A ring of 4 sites. */
     size_t sites, generators;
     uint32_t orders[GOMURIN_MAX_GENERATORS], targets[GOMURIN_TARGETS];
     accept("chain_1d", gomurin_chain_1d(4, &sites, &generators, orders, targets, values));
 
-    /* The word XIII. */
-    size_t n;
+    /* The word and its weight. */
+    size_t n, weight;
     uint8_t word[GOMURIN_WORD_BYTES];
-    accept("from_text", gomurin_from_text((const uint8_t *)"XIII", 4, &n, word, values));
+    accept("from_text", gomurin_from_text((const uint8_t *)letters, 4, &n, word, values));
+    accept("weight", gomurin_weight(n, word, sizeof word, &weight, values));
 
     /* The least word of its orbit, and the index that leads from there back to the word. */
     uint8_t least[GOMURIN_WORD_BYTES];
@@ -55,25 +57,28 @@ static void first_row(void)
     accept("canonicalize_with_index",
            gomurin_canonicalize_with_index(sites, generators, orders, targets, n, word, sizeof word, least, &index, values));
 
-    /* Whether mode 1 keeps the word, and how many words its orbit has. */
-    int32_t modes[1] = {1};
+    /* Whether the mode keeps the word, and then how many words its orbit has, or else the index of the symmetry that rules it out. */
     uint32_t counter[1];
-    size_t size;
+    size_t size, dropped_by;
     bool kept;
     accept("canonicalize_in_sector",
-           gomurin_canonicalize_in_sector(sites, generators, orders, targets, n, word, sizeof word, modes, 1, least, counter, 1, &size,
-                                          &kept, values));
+           gomurin_canonicalize_in_sector(sites, generators, orders, targets, n, word, sizeof word, &mode, 1, least, counter, 1, &size,
+                                          &kept, &dropped_by, values));
+    if (!kept) {
+        printf("%s - %zu - %zu 0\n", letters, dropped_by, weight);
+        return;
+    }
 
-    size_t length, weight;
+    size_t length;
     uint8_t text[GOMURIN_MAX_SITES];
     accept("to_text", gomurin_to_text(n, least, sizeof least, &length, text, values));
-    accept("weight", gomurin_weight(n, word, sizeof word, &weight, values));
-    printf("XIII %.*s %zu %zu %zu %d\n", (int)length, (const char *)text, index, size, weight, kept);
+    printf("%s %.*s %zu %zu %zu 1\n", letters, (int)length, (const char *)text, index, size, weight);
 }
 
 int main(void)
 {
     whole_sheet();
-    first_row();
+    one_row("XIII", 1);
+    one_row("XIXI", 1);
     return 0;
 }

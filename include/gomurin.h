@@ -161,12 +161,13 @@ size_t gomurin_character_table(size_t sites, size_t generators, const uint32_t o
                                size_t list_length, size_t values[GOMURIN_VALUES]);
 
 /* Whether modes keep a word. A kept word comes with the least word of its orbit, the counter of the index that leads from there back to the word, into
- * a list with a place for each generator, and the orbit size. Of a dropped word the least word and the size are zeros, and the counter stays. */
+ * a list with a place for each generator, and the orbit size. A dropped one comes with the smallest index that fixes it with a numerator other than 0,
+ * in `dropped_by`, which is 0 of a kept word; its least word and size are zeros, and the counter stays. */
 size_t gomurin_canonicalize_in_sector(size_t sites, size_t generators, const uint32_t orders[GOMURIN_MAX_GENERATORS],
                                       const uint32_t targets[GOMURIN_TARGETS], size_t n, const uint8_t *word,
                                       size_t word_length, const int32_t *modes, size_t modes_length,
                                       uint8_t least[GOMURIN_WORD_BYTES], uint32_t *counter, size_t counter_length, size_t *size,
-                                      bool *kept, size_t values[GOMURIN_VALUES]);
+                                      bool *kept, size_t *dropped_by, size_t values[GOMURIN_VALUES]);
 
 /* ---- level 3: sums */
 

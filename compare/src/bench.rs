@@ -229,7 +229,7 @@ fn ours_with_index(group: &Group, word: &[u8]) -> ([u8; WORD_BYTES], usize) {
 
 fn ours_in_sector(group: &Group, word: &[u8], modes: &[i32]) -> ([u8; WORD_BYTES], [u32; MAX_GENERATORS], usize, u8) {
     let (mut least, mut counter, mut size, mut kept) = ([0; WORD_BYTES], [0; MAX_GENERATORS], 0, 0);
-    let mut values = [0; VALUES];
+    let (mut dropped_by, mut values) = (0, [0; VALUES]);
     let rule = call_of_group!(
         gomurin_canonicalize_in_sector,
         parts(group),
@@ -243,6 +243,7 @@ fn ours_in_sector(group: &Group, word: &[u8], modes: &[i32]) -> ([u8; WORD_BYTES
         group.generators,
         &mut size,
         &mut kept,
+        &mut dropped_by,
         values.as_mut_ptr()
     );
     assert_eq!(rule, 0);

@@ -44,7 +44,7 @@ unsafe extern "C" {
         modes_length: usize, list: *mut usize, list_length: usize, values: *mut usize) -> usize;
     pub fn gomurin_canonicalize_in_sector(sites: usize, generators: usize, orders: *const u32, targets: *const u32, n: usize,
         word: *const u8, word_length: usize, modes: *const i32, modes_length: usize, least: *mut u8, counter: *mut u32,
-        counter_length: usize, size: *mut usize, kept: *mut u8, values: *mut usize) -> usize;
+        counter_length: usize, size: *mut usize, kept: *mut u8, dropped_by: *mut usize, values: *mut usize) -> usize;
     pub fn gomurin_canonicalize_pauli_sum(sites: usize, generators: usize, orders: *const u32, targets: *const u32, words: *const u8,
         words_length: usize, coefficients: *const f64, coefficients_length: usize, representatives: *mut u8, representatives_length: usize,
         sums: *mut f64, sums_length: usize, counts: *mut u32, counts_length: usize, rows: *mut usize, values: *mut usize) -> usize;

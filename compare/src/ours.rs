@@ -276,7 +276,7 @@ impl Ours {
         let m = &mut self.memory;
         let (group, word, modes) = (lend_group(m, &self.group), m.lend(&self.word), m.lend(&self.modes));
         let (least, counter, size) = (m.room::<u8>(WORD_BYTES), m.room_with(&vec![u32::from(FILL); places]), m.room::<usize>(1));
-        let (kept, values) = (m.room::<u8>(1), m.room(VALUES));
+        let (kept, dropped_by, values) = (m.room::<u8>(1), m.room::<usize>(1), m.room(VALUES));
         let rule = call_of_group!(
             gomurin_canonicalize_in_sector,
             group,
@@ -290,11 +290,12 @@ impl Ours {
             counter.length,
             size.at,
             kept.at,
+            dropped_by.at,
             values.at
         );
-        let answer = said(rule, values, &[zeros(least), zeros(size), zeros(kept)], || match kept.first() {
-            1 => format!("kept {} {}", size.first(), letters(self.sites, least.get())),
-            0 if zeros(least) && zeros(size) => "dropped".to_string(),
+        let answer = said(rule, values, &[zeros(least), zeros(size), zeros(kept), zeros(dropped_by)], || match kept.first() {
+            1 if zeros(dropped_by) => format!("kept {} {}", size.first(), letters(self.sites, least.get())),
+            0 if zeros(least) && zeros(size) => format!("dropped {}", dropped_by.first()),
             other => format!("kept {other}, but something is handed back"),
         });
         answer + ":" + &list(counter.get())

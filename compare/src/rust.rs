@@ -240,7 +240,7 @@ impl Rust {
             check(21, places != group.n_generators())?;
             Ok(match group.canonicalize_in_sector(&word, &self.modes) {
                 Some((least, counter, size)) => (format!("kept {size} {}", text(&least)), counter),
-                None => ("dropped".to_string(), vec![u32::from(FILL); places]),
+                None => (format!("dropped {}", dropped_by(group, &word, &self.modes)), vec![u32::from(FILL); places]),
             })
         };
         said_with_list(sector(), places)
@@ -417,6 +417,12 @@ fn text(word: &Word) -> String {
 fn index_of(group: &TranslationGroup, counter: &[u32]) -> usize {
     let digits = counter.iter().enumerate().rev();
     digits.fold(0, |index, (g, &digit)| index * group.generator_order(g) as usize + digit as usize)
+}
+
+/// What drops a word. The Rust says only that it is dropped; this is the first entry of its walk that is the word itself with a numerator other than 0.
+pub fn dropped_by(group: &TranslationGroup, word: &Word, modes: &[i32]) -> usize {
+    let breaks = |(entry, counter): (Word, Vec<u32>)| entry == *word && inner::character_numerator(group, modes, &counter) != 0;
+    inner::orbit_with_counters(group, word).position(breaks).expect("a dropped word has such an entry")
 }
 
 fn check(rule: usize, broken: bool) -> Result<(), Refusal> {

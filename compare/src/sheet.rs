@@ -1,7 +1,7 @@
 //! What a sheet prints, by document 01 and the listed Rust.
 
 use crate::cases::*;
-use crate::rust::{lattice_group, read_text};
+use crate::rust::{dropped_by, lattice_group, read_text};
 use crate::sizes::*;
 use ppvm_pauli_sum::symmetry::group::TranslationGroup;
 use ppvm_traits::PauliWordTrait;
@@ -101,6 +101,6 @@ fn word_line(group: &TranslationGroup, used: usize, line: (&[u8], usize)) -> Res
     let weight = word.weight();
     Ok(match group.canonicalize_in_sector(&word, modes) {
         Some((_, _, size)) => format!("{word} {least} {index} {size} {weight} 1\n"),
-        None => format!("{word} - - - {weight} 0\n"),
+        None => format!("{word} - {} - {weight} 0\n", dropped_by(group, &word, modes)),
     })
 }

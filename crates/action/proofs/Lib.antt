@@ -11,6 +11,7 @@ pub mod Stabilizer
 pub mod Annihilators
 pub mod Characters
 pub mod Kept
+pub mod Dropped
 pub mod Pairs
 pub mod Lattice
 pub mod Theorems

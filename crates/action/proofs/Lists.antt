@@ -5,13 +5,13 @@ use native.Mathlib.Nat.{le-antisymm, eq-or-lt-of-le, not-suc-le-zero}
 use native.Mathlib.Omega.{arith}
 use mathlib.Core.Path.{_≡_, refl, sym, _∙_, ap, ap₂, subst}
 use mathlib.Core.Logic.{_⊎_, inl, inr, ⊎-elim}
-use mathlib.Core.Bool.{Bool, true, false, cond, false≢true, and-eq-true-iff, _&&_, and-assoc}
+use mathlib.Core.Bool.{Bool, true, false, cond, false≢true, true≢false, and-eq-true-iff, _&&_, and-assoc}
 use mathlib.Core.List.{List, [], _∷_, _++_, map, head-eq-of-cons-eq, tail-eq-of-cons-eq}
 use lib.Dec.{eqb}
 use lib.ListN.{length, getD, length-map}
 use borrow.Author.Tests.{eqb-true, eq-eqb}
 use Rattle.action.specs.Arithmetic.{product}
-use Rattle.action.specs.Lists.{from, below, sameNumbers, Member, select, count, every, total, prefixed, choices, NoRepeats}
+use Rattle.action.specs.Lists.{from, below, sameNumbers, Member, select, count, every, firstOf, total, prefixed, choices, NoRepeats}
 
 -- tests that hold together are the same
 pub bool-ext : (a b : Bool) → (a ≡ true → b ≡ true) → (b ≡ true → a ≡ true) → a ≡ b
@@ -62,6 +62,24 @@ noRepeats-below n = noRepeats-from n 0
 pub length-below : (n : ℕ) → length (below n) ≡ n
 unfolding below
 length-below n = length-from n 0
+
+-- no number below n that passes a test is less than the first
+
+first-from : (d : ℕ) (p : ℕ → Bool) (n a i : ℕ) → Member i (from a n) → p i ≡ true → firstOf d p (from a n) ≤ i
+unfolding from firstOf
+first-from d p zero a i h e = absurd h
+first-from d p (suc n) a i h e = split (p a) refl h (λ m. first-from d p n (suc a) i m e)
+  where
+    split :
+        (t : Bool) → p a ≡ t → Member i (a ∷ from (suc a) n) → (Member i (from (suc a) n) → firstOf d p (from (suc a) n) ≤ i)
+        → cond t a (firstOf d p (from (suc a) n)) ≤ i
+    split true q m later = of-member-from (suc n) a i h .0
+    split false q (inl k) later = absurd (false≢true (sym q ∙ ap p (sym k) ∙ e))
+    split false q (inr m) later = later m
+
+pub first-least : (d : ℕ) (p : ℕ → Bool) (n i : ℕ) → i < n → p i ≡ true → firstOf d p (below n) ≤ i
+unfolding below
+first-least d p n i h e = first-from d p n 0 i (member-from n 0 i (omega arith) (omega arith)) e
 
 -- lists of numbers that are the same
 
@@ -118,6 +136,30 @@ module _ {A : Type 0} where
   every-elim p [] e a h = absurd h
   every-elim p (b ∷ xs) e a (inl k) = ap p k ∙ and-eq-true-iff (p b) (every p xs) .0 e .0
   every-elim p (b ∷ xs) e a (inr h) = every-elim p xs (and-eq-true-iff (p b) (every p xs) .0 e .1) a h
+
+  -- not every member passes: one fails
+  pub every-false : (p : A → Bool) (xs : List A) → every p xs ≡ false → (a : A) × Member a xs × (p a ≡ false)
+  unfolding every
+  every-false p [] e = absurd (true≢false e)
+  every-false p (a ∷ xs) e = split (p a) refl e (every-false p xs)
+    where
+      split :
+          (t : Bool) → p a ≡ t → (t && every p xs) ≡ false → (every p xs ≡ false → (b : A) × Member b xs × (p b ≡ false))
+          → (b : A) × Member b (a ∷ xs) × (p b ≡ false)
+      split true q e later = let r : (b : A) × Member b xs × (p b ≡ false) = later e in (r .0, inr (r .1), r .2)
+      split false q e later = (a, inl refl, q)
+
+  -- one member passes: so does the first
+  pub first-passes : (d : A) (p : A → Bool) (xs : List A) (a : A) → Member a xs → p a ≡ true → p (firstOf d p xs) ≡ true
+  unfolding firstOf
+  first-passes d p [] a h e = absurd h
+  first-passes d p (b ∷ xs) a h e = split (p b) refl h (λ m. first-passes d p xs a m e)
+    where
+      split :
+          (t : Bool) → p b ≡ t → Member a (b ∷ xs) → (Member a xs → p (firstOf d p xs) ≡ true) → p (cond t b (firstOf d p xs)) ≡ true
+      split true q m later = q
+      split false q (inl k) later = absurd (false≢true (sym q ∙ ap p (sym k) ∙ e))
+      split false q (inr m) later = later m
 
   pub member-select : (p : A → Bool) (xs : List A) (a : A) → Member a xs → p a ≡ true → Member a (select p xs)
   unfolding select

@@ -1,8 +1,8 @@
 -- What is proved of the definitions: each statement is followed by the law that shows it.
 --
--- 1 Words, 2 Permutations, 3 Indices, 4 Canonical, 5 Stabilizer, 6 Characters, 7 Kept lists, 8 Pairs, 9 Lattices. From 3 to 8, gs are valid
--- generators of n sites (`Valid n gs`: each permutes the sites, every two commute, and each order is exact), and n and the number of generators
--- are any.
+-- 1 Words, 2 Permutations, 3 Indices, 4 Canonical, 5 Stabilizer, 6 Characters, 7 Kept lists, and what drops a word, 8 Pairs, 9 Lattices. From 3
+-- to 8, gs are valid generators of n sites (`Valid n gs`: each permutes the sites, every two commute, and each order is exact), and n and the number
+-- of generators are any.
 use Prim.Native.Nat.{ℕ, suc, _+_, _*_, _^_, _%_, _<_, _≤_, _∣_}
 use mathlib.Core.Path.{_≡_, refl, _∙_}
 use mathlib.Core.Logic.{_⊎_, _↔_}
@@ -19,7 +19,7 @@ use Rattle.action.specs.Permutation.{Generator, target, sends, after, ex
 use Rattle.action.specs.Lattice.{shifts, chain, ladder, torus2, torus3}
 use Rattle.action.specs.Index.{orderOf, digits, Digits, index, addDigits, add, inverse}
 use Rattle.action.specs.Orbit.{move, reach, stepped, orbit, isIn, least, forward, indexBack, fixes, fixing, orbitSize}
-use Rattle.action.specs.Sector.{modulus, reduced, numerator, reducedModes, reducedDigits, Modes, Character, keeps}
+use Rattle.action.specs.Sector.{modulus, reduced, numerator, reducedModes, reducedDigits, Modes, Character, keeps, droppedBy, Drops}
 use Rattle.action.specs.Count.{allWords, allModes, representatives, keptLists, keptPairs}
 use Rattle.action.proofs.Support as Support
 use Rattle.action.proofs.ExactOrders as Order
@@ -30,6 +30,7 @@ use Rattle.action.proofs.Canonical as Canonical
 use Rattle.action.proofs.Stabilizer as Stabilizer
 use Rattle.action.proofs.Characters as Characters
 use Rattle.action.proofs.Kept as Kept
+use Rattle.action.proofs.Dropped as Dropped
 use Rattle.action.proofs.Pairs as Pairs
 use Rattle.action.proofs.Lattice as Lattice
 
@@ -282,6 +283,15 @@ module _ {n : ℕ} {gs : List Generator} (valid : Valid n gs) where
     -- keeping is the same for all words of an orbit
     pub keeps-orbit : (ks : List ℤ) (u : Word) → isIn u (orbit gs w) ≡ true → keeps gs ks u ≡ keeps gs ks w
     keeps-orbit = Kept.keeps-orbit valid w long
+
+    -- modes do not keep the word exactly if some index below the order fixes it and has a numerator other than 0
+    pub keeps-unless : (ks : List ℤ)
+        → (keeps gs ks w ≡ false) ↔ ((i : ℕ) × (i < orderOf gs) × (fixes gs w i ≡ true) × (numerator gs ks (digits gs i) ≡ 0 → ⊥))
+    keeps-unless = Dropped.keeps-unless gs w
+
+    -- `droppedBy` is then the smallest such index
+    pub drops-exactly : (ks : List ℤ) (i : ℕ) → Drops gs ks w i ↔ ((keeps gs ks w ≡ false) × (droppedBy gs ks w ≡ i))
+    drops-exactly = Dropped.drops-exactly gs w
 
   -- ---- 8 Pairs: nothing is lost. There are 4 ^ n pairs of a representative and a mode list that keeps it; by any test that agrees with
   -- `keeps`, and so by `keeps`. All words of n letters and all reduced mode lists are listed, once each

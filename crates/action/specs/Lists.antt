@@ -48,6 +48,11 @@ unfoldable pub every : {A : Type 0} → (A → Bool) → List A → Bool
 every p [] = true
 every p (a ∷ xs) = p a && every p xs
 
+-- the first member that passes a test; d if none does
+unfoldable pub firstOf : {A : Type 0} → A → (A → Bool) → List A → A
+firstOf d p [] = d
+firstOf d p (a ∷ xs) = let t = firstOf d p xs in cond (p a) a t
+
 -- the sum of a number for each member
 unfoldable pub total : {A : Type 0} → (A → ℕ) → List A → ℕ
 total f [] = 0

@@ -1,13 +1,13 @@
 -- Characters of the group, and which words a list of modes keeps.
 use Prim.Native.Nat.{ℕ, _+_, _-_, _*_, _/_, _%_, _<_}
 use mathlib.Core.Path.{_≡_}
-use mathlib.Core.Bool.{Bool, _||_, not}
+use mathlib.Core.Bool.{Bool, true, _||_, _&&_, not}
 use mathlib.Core.List.{List, [], _∷_, map}
 use lib.Dec.{eqb}
 use lib.IntN.{ℤ, pos, negsuc}
 use Rattle.pauli_word.specs.Word.{Word}
 use Rattle.action.specs.Arithmetic.{lcmAll}
-use Rattle.action.specs.Lists.{below, every}
+use Rattle.action.specs.Lists.{below, every, firstOf}
 use Rattle.action.specs.Permutation.{Generator}
 use Rattle.action.specs.Index.{orderOf, digits, add}
 use Rattle.action.specs.Orbit.{fixes}
@@ -69,3 +69,20 @@ trivial gs ks i = eqb (numerator gs ks (digits gs i)) 0
 unfoldable pub keeps : List Generator → List ℤ → Word → Bool
 unfolding every fixes trivial below orderOf
 keeps gs ks w = every (λ i. not (fixes gs w i) || trivial gs ks i) (below (orderOf gs))
+
+-- whether index i breaks w: it fixes it, and its numerator is not 0
+unfoldable pub breaks : List Generator → List ℤ → Word → ℕ → Bool
+unfolding fixes trivial
+breaks gs ks w i = fixes gs w i && not (trivial gs ks i)
+
+-- what drops w: the first index below the order that breaks it; 0, which breaks no word, if the modes keep w
+unfoldable pub droppedBy : List Generator → List ℤ → Word → ℕ
+unfolding firstOf breaks below orderOf
+droppedBy gs ks w = firstOf 0 (breaks gs ks w) (below (orderOf gs))
+
+-- index i drops w: it is below the order and fixes w, its numerator is not 0, and no smaller index does both
+pub record Drops (gs : List Generator) (ks : List ℤ) (w : Word) (i : ℕ) : Type 0 where
+  pub inside : i < orderOf gs
+  pub fixed : fixes gs w i ≡ true
+  pub phased : numerator gs ks (digits gs i) ≡ 0 → ⊥
+  pub noneEarlier : (j : ℕ) → j < i → fixes gs w j ≡ true → numerator gs ks (digits gs j) ≡ 0

@@ -27,7 +27,7 @@ use Rattle.group.proofs.Accepted.{accepted-by, accepted-tables}
 use Rattle.orbit.specs.Calls.{isWalk, noWord, noWalk, nextOutcome, entry, finished}
 use Rattle.momentum.specs.Calls.{kept, dropped}
 use Rattle.sheet_text.specs.Sheet.{Page, tablePage, refusalPage}
-use Rattle.c_api.specs.Told.{placed, numberOf, valuesOf, walkIn, signOf, indexOfEntry, isFinished, sizeIn, isKept, pageNumber, pageValues, pageLength}
+use Rattle.c_api.specs.Told.{placed, numberOf, valuesOf, walkIn, signOf, indexOfEntry, isFinished, sizeIn, isKept, dropIndex, pageNumber, pageValues, pageLength}
 
 -- ---- 1 0 is returned for an answer alone: no rule has the number 0
 
@@ -149,8 +149,11 @@ signs = refl
 pub entries : (map indexOfEntry (entry 3 ∷ finished ∷ []) ≡ 3 ∷ 0 ∷ []) × (map isFinished (entry 3 ∷ finished ∷ []) ≡ false ∷ true ∷ [])
 entries = (refl, refl)
 
-pub decisions : (map sizeIn (kept 4 ∷ dropped ∷ []) ≡ 4 ∷ 0 ∷ []) × (map (isKept {A = ℕ}) (kept 4 ∷ dropped ∷ []) ≡ true ∷ false ∷ [])
-decisions = (refl, refl)
+pub decisions :
+    (map sizeIn (kept 4 ∷ dropped 2 ∷ []) ≡ 4 ∷ 0 ∷ [])
+    × (map (isKept {A = ℕ}) (kept 4 ∷ dropped 2 ∷ []) ≡ true ∷ false ∷ [])
+    × (map (dropIndex {A = ℕ}) (kept 4 ∷ dropped 2 ∷ []) ≡ 0 ∷ 2 ∷ [])
+decisions = (refl, refl, refl)
 
 -- a sheet refused by 29 at line 4, at letter 2, its line of 13 bytes; a table of 84 bytes; a list too short
 abbrev pages : List (Outcome Page)

@@ -57,15 +57,20 @@ isFinished finished = true
 -- the orbit size of a kept word; 0 of a dropped one
 abbrev pub sizeIn : Decision ℕ → ℕ
 sizeIn (kept size) = size
-sizeIn dropped = 0
+sizeIn (dropped i) = 0
 
 abbrev pub rowSize : Decision Row → ℕ
 rowSize (kept r) = r .size
-rowSize dropped = 0
+rowSize (dropped i) = 0
 
 abbrev pub isKept : {A : Type 0} → Decision A → Bool
 isKept (kept a) = true
-isKept dropped = false
+isKept (dropped i) = false
+
+-- the index that drops a dropped word; 0 of a kept one
+abbrev pub dropIndex : {A : Type 0} → Decision A → ℕ
+dropIndex (kept a) = 0
+dropIndex (dropped i) = i
 
 -- ---- the sheet: a refused sheet is printed too, and is refused by its own rule
 

@@ -6,7 +6,7 @@ ghost use Rattle.outcome.specs.Outcome.{orElse, itself};
 ghost use Rattle.group.specs.Value.{generatorsOf};
 ghost use Rattle.orbit.specs.Calls.{noWord};
 ghost use Rattle.momentum.specs.Calls.{numeratorOutcome, tableOutcome, sectorOutcome, rowWord, rowCounter};
-ghost use Rattle.c_api.specs.Told.{numberOf, valuesOf, groupIn, rowSize, isKept};
+ghost use Rattle.c_api.specs.Told.{numberOf, valuesOf, groupIn, rowSize, isKept, dropIndex};
 use crate::VALUES;
 use crate::told;
 use pauli_word::WORD_BYTES;
@@ -58,7 +58,8 @@ pub extern "C" fn gomurin_character_table(
 }
 
 // Whether modes keep a word. A kept word comes with the least word of its orbit, the counter of the index that leads from there back to the word, into a
-// list with a place for each generator, and the orbit size. Of a dropped word the least word and the size are zeros, and the counter stays.
+// list with a place for each generator, and the orbit size. A dropped one comes with the smallest index that fixes it with a numerator other than 0; its
+// least word and size are zeros, and the counter stays. That index is 0 of a kept word.
 #[no_mangle]
 pub extern "C" fn gomurin_canonicalize_in_sector(
     sites: usize,
@@ -72,6 +73,7 @@ pub extern "C" fn gomurin_canonicalize_in_sector(
     counter: &mut [u32],
     size: &mut usize,
     kept: &mut bool,
+    dropped_by: &mut usize,
     values: &mut [usize; VALUES],
 ) -> usize
     ensures number { λ r. ⌜ r ≡ numberOf (sectorOutcome (groupIn sites generators (now (orders .entry)) (now (targets .entry))) n (now (word .entry)) (now (modes .entry)) (length (now (counter .entry)))) ⌝ }
@@ -79,6 +81,7 @@ pub extern "C" fn gomurin_canonicalize_in_sector(
     ensures counter { λ _. ⌜ now (counter .exit) ≡ orElse (rowCounter (generatorsOf (groupIn sites generators (now (orders .entry)) (now (targets .entry)))) (now (counter .entry))) (now (counter .entry)) (sectorOutcome (groupIn sites generators (now (orders .entry)) (now (targets .entry))) n (now (word .entry)) (now (modes .entry)) (length (now (counter .entry)))) ⌝ }
     ensures size { λ _. ⌜ now (size .exit) ≡ orElse rowSize 0 (sectorOutcome (groupIn sites generators (now (orders .entry)) (now (targets .entry))) n (now (word .entry)) (now (modes .entry)) (length (now (counter .entry)))) ⌝ }
     ensures kept { λ _. ⌜ now (kept .exit) ≡ orElse isKept false (sectorOutcome (groupIn sites generators (now (orders .entry)) (now (targets .entry))) n (now (word .entry)) (now (modes .entry)) (length (now (counter .entry)))) ⌝ }
+    ensures index { λ _. ⌜ now («dropped_by» .exit) ≡ orElse dropIndex 0 (sectorOutcome (groupIn sites generators (now (orders .entry)) (now (targets .entry))) n (now (word .entry)) (now (modes .entry)) (length (now (counter .entry)))) ⌝ }
     ensures values { λ _. ⌜ now (values .exit) ≡ valuesOf (sectorOutcome (groupIn sites generators (now (orders .entry)) (now (targets .entry))) n (now (word .entry)) (now (modes .entry)) (length (now (counter .entry)))) ⌝ }
 {
     let held = told::group_in(sites, generators, orders, targets);
@@ -86,5 +89,5 @@ pub extern "C" fn gomurin_canonicalize_in_sector(
     let bytes = found.word;
     *least = bytes;
     let answer = found.answer;
-    told::sector(answer, size, kept, values)
+    told::sector(answer, size, kept, dropped_by, values)
 }

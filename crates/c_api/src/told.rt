@@ -5,7 +5,7 @@ ghost use mathlib.Core.List.{[], _∷_};
 ghost use Rattle.outcome.specs.Outcome.{ruleNumber, ruleValues, outcomeOfNumber, outcomeOfVerdict, orElse, itself};
 ghost use Rattle.orbit.specs.Calls.{outcomeOfStep};
 ghost use Rattle.momentum.specs.Calls.{outcomeOfSector};
-ghost use Rattle.c_api.specs.Told.{placed, numberOf, valuesOf, groupIn, walkIn, indexOfEntry, isFinished, sizeIn, isKept};
+ghost use Rattle.c_api.specs.Told.{placed, numberOf, valuesOf, groupIn, walkIn, indexOfEntry, isFinished, sizeIn, isKept, dropIndex};
 use crate::VALUES;
 use group::Group;
 use group::Made;
@@ -198,27 +198,33 @@ pub fn step(
     }
 }
 
-// A word in a sector: its orbit's size where it is kept.
+// A word in a sector: its orbit's size where it is kept, and the index that drops it where it is not.
 pub fn sector(
     answer: Sector,
     size: &mut usize,
     kept: &mut bool,
+    dropped_by: &mut usize,
     values: &mut [usize; VALUES],
 ) -> usize
     ensures number { λ r. ⌜ r ≡ numberOf (outcomeOfSector answer) ⌝ }
     ensures size { λ _. ⌜ now (size .exit) ≡ orElse sizeIn 0 (outcomeOfSector answer) ⌝ }
     ensures kept { λ _. ⌜ now (kept .exit) ≡ orElse isKept false (outcomeOfSector answer) ⌝ }
+    ensures index { λ _. ⌜ now («dropped_by» .exit) ≡ orElse dropIndex 0 (outcomeOfSector answer) ⌝ }
     ensures values { λ _. ⌜ now (values .exit) ≡ valuesOf (outcomeOfSector answer) ⌝ }
 {
     *size = 0;
     *kept = false;
+    *dropped_by = 0;
     match answer {
         Sector::Kept(words) => {
             *size = words;
             *kept = true;
             answered(values)
         }
-        Sector::Dropped => answered(values),
+        Sector::Dropped(index) => {
+            *dropped_by = index;
+            answered(values)
+        }
         Sector::Refused(why) => refused(why, values),
     }
 }

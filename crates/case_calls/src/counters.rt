@@ -79,7 +79,10 @@ fn told(answer: Sector, n: usize, least: &[u8]) {
             lines::byte(b' ');
             lines::spell(n, least);
         }
-        Sector::Dropped => lines::text(b"dropped"),
+        Sector::Dropped(index) => {
+            lines::text(b"dropped ");
+            lines::number(index);
+        }
         Sector::Refused(why) => answers::refused(why),
     }
 }

@@ -33,8 +33,8 @@
 // | `modes k k ..`                  | nothing: these are in force                               | `set`                                              |
 // | `numerator d d ..`              | character_numerator                                       | the number or REFUSED                              |
 // | `table L`                       | character_table into L places                             | `done:` or `REFUSED:`, the list                    |
-// | `sector K`                      | canonicalize_in_sector into K places                      | `kept SIZE LETTERS:`, `dropped:` or `REFUSED:`,    |
-// |                                 |                                                           | the list                                           |
+// | `sector K`                      | canonicalize_in_sector into K places                      | `kept SIZE LETTERS:`, `dropped INDEX:` or          |
+// |                                 |                                                           | `REFUSED:`, the list                               |
 // | `beside K`                      | canonicalize, with_index, with_shift and in_sector, the   | for each the word beside its answer: `zeros` or    |
 // |                                 | last two into K places                                    | LETTERS                                            |
 // | `clear`                         | nothing: no rows                                          | `set`                                              |

@@ -4,9 +4,9 @@ use Prim.Native.Nat.{ℕ, _+_}
 use native.Mathlib.Omega.{arith}
 use mathlib.Core.Path.{_≡_, refl, sym, _∙_, ap, ap₂, subst}
 use mathlib.Core.Logic.{inl, inr, ⊎-elim}
-use mathlib.Core.Bool.{Bool, true, false, _&&_, cond, true≢false}
+use mathlib.Core.Bool.{Bool, true, false, _&&_, cond}
 use mathlib.Core.List.{List, [], _∷_, map}
-use Rattle.action.specs.Lists.{Member, NoRepeats, select, count, every, total}
+use Rattle.action.specs.Lists.{Member, NoRepeats, select, count, total}
 use Rattle.action.proofs.Lists.{member-append-left, member-append-right, of-member-append, noRepeats-append, member-map, of-member-map, noRepeats-map, count-append, count-map, count-false, total-count-swap}
 use Rattle.momentum.specs.Counts.{pairs}
 
@@ -69,15 +69,3 @@ module _ {A : Type 0} where
           → total f (cond b (a ∷ select t xs) (select t xs)) ≡ cond b (f a) 0 + total (λ a. cond (t a) (f a) 0) xs
       step true e = ap (λ (n : ℕ). f a + n) e
       step false e = omega arith
-
-  -- not every member passes: one fails
-  pub every-false : (t : A → Bool) (xs : List A) → every t xs ≡ false → (a : A) × Member a xs × (t a ≡ false)
-  unfolding every
-  every-false t [] e = absurd (true≢false e)
-  every-false t (a ∷ xs) e = split (t a) refl e (every-false t xs)
-    where
-      split :
-          (b : Bool) → t a ≡ b → (b && every t xs) ≡ false → (every t xs ≡ false → (c : A) × Member c xs × (t c ≡ false))
-          → (c : A) × Member c (a ∷ xs) × (t c ≡ false)
-      split true p q later = let r : (c : A) × Member c xs × (t c ≡ false) = later q in (r .0, inr (r .1), r .2)
-      split false p q later = (a, inl refl, p)

@@ -16,9 +16,9 @@ use Rattle.momentum.specs.Calls.{kept, dropped, Row, decision}
 use Rattle.momentum.specs.Counts.{isKept}
 
 -- by whether the modes keep the word
-pub kept-by : (b : Bool) (r : Row) → isKept (answer (cond b (kept r) dropped)) ≡ b
-kept-by true r = refl
-kept-by false r = refl
+pub kept-by : (b : Bool) (r : Row) (i : ℕ) → isKept (answer (cond b (kept r) (dropped i))) ≡ b
+kept-by true r i = refl
+kept-by false r i = refl
 
 -- whether the decision keeps a word
 abbrev pub decides : List Generator → List ℤ → Word → Bool
@@ -28,9 +28,9 @@ module _ {n : ℕ} {gs : List Generator} (valid : Valid n gs) where
   -- there are 4 ^ n pairs of a representative and a mode list under which the decision keeps it
   pub decided-pairs : keptPairs (decides gs) gs n ≡ 4 ^ n
   unfolding decision
-  decided-pairs = Action.kept-pairs valid (decides gs) (λ w ks e m. kept-by (keeps gs ks w) _)
+  decided-pairs = Action.kept-pairs valid (decides gs) (λ w ks e m. kept-by (keeps gs ks w) _ _)
 
   -- of all mode lists, as many keep a word as its orbit has different words
   pub decided-lists : (w : Word) → length w ≡ n → keptLists (decides gs) gs w ≡ length (orbit gs w)
   unfolding decision
-  decided-lists w long = Action.kept-lists valid w long (decides gs) (λ ks m. kept-by (keeps gs ks w) _)
+  decided-lists w long = Action.kept-lists valid w long (decides gs) (λ ks m. kept-by (keeps gs ks w) _ _)

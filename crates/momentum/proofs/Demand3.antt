@@ -19,7 +19,7 @@ use Rattle.action.specs.Lists.{Member, NoRepeats, count}
 use Rattle.action.specs.Permutation.{Generator}
 use Rattle.action.specs.Index.{orderOf, digits}
 use Rattle.action.specs.Orbit.{reach, orbit, isIn, fixes, fixing, orbitSize}
-use Rattle.action.specs.Sector.{numerator, reducedModes, reducedDigits, Modes, keeps}
+use Rattle.action.specs.Sector.{numerator, reducedModes, reducedDigits, Modes, keeps, Drops}
 use Rattle.action.specs.Count.{allModes}
 use Rattle.action.proofs.Index.{valid-positive}
 use Rattle.action.proofs.Theorems as Action
@@ -126,11 +126,18 @@ module _ (g : Group) where
       kept-exactly ks modes counter room = Kept.kept-keeps g given bytes word ks modes (length counter) room
 
       -- and dropped exactly if some index fixes it and has another numerator
+      pub dropped-some :
+          (ks : List ℤ) → length ks ≡ g .generators → (counter : List ℕ) → length counter ≡ g .generators
+          → ((i : ℕ) × (sectorOutcome g n bytes ks (length counter) ≡ answer (dropped i)))
+          ↔ ((i : ℕ) × (i < orderOf gs) × (fixes gs (w bytes) i ≡ true) × (numerator gs ks (digits gs i) ≡ 0 → ⊥))
+      dropped-some ks modes counter room = Kept.dropped-some g given bytes word ks modes (length counter) room
+
+      -- by index i exactly if i is the smallest such index, by the fields of `Drops`: it is below the group order (`inside`) and fixes the word
+      -- (`fixed`), its numerator is not 0 (`phased`), and no smaller index does both (`noneEarlier`)
       pub dropped-exactly :
           (ks : List ℤ) → length ks ≡ g .generators → (counter : List ℕ) → length counter ≡ g .generators
-          → (sectorOutcome g n bytes ks (length counter) ≡ answer dropped)
-          ↔ ((i : ℕ) × (i < orderOf gs) × (fixes gs (w bytes) i ≡ true) × (numerator gs ks (digits gs i) ≡ 0 → ⊥))
-      dropped-exactly ks modes counter room = Kept.dropped-against g given bytes word ks modes (length counter) room
+          → (i : ℕ) → (sectorOutcome g n bytes ks (length counter) ≡ answer (dropped i)) ↔ Drops gs ks (w bytes) i
+      dropped-exactly ks modes counter room = Kept.dropped-drops g given bytes word ks modes (length counter) room
 
       -- what goes with a kept word is the answer of canonicalize_with_index and the number of different words of the orbit, which times the number of
       -- fixing indices is the group order

@@ -5,24 +5,24 @@ use Prim.Native.Nat.{ℕ, _*_, _^_, _<_}
 use native.Mathlib.Omega.{arith}
 use mathlib.Core.Path.{_≡_, refl, sym, _∙_, ap, ap₂}
 use mathlib.Core.Logic.{_↔_}
-use mathlib.Core.Bool.{Bool, true, false, _&&_, _||_, not, cond, true≢false}
+use mathlib.Core.Bool.{Bool, true, false, _&&_, cond}
 use mathlib.Core.List.{List, [], _∷_, _++_}
 use lib.IntN.{ℤ}
 use lib.ListN.{length}
-use borrow.Author.Tests.{ne-eqb, eqb-false}
 use Rattle.pauli_word.specs.Limits.{planeLength}
 use Rattle.outcome.specs.Outcome.{answer}
 use Rattle.pauli_word.specs.Word.{Word}
 use Rattle.pauli_word.specs.Bytes.{AcceptedWord, lettersIn, bytesOf}
 use Rattle.outcome.proofs.Outcomes.{call-answers, unless-answer}
 use Rattle.pauli_word.proofs.Words.{decode-length, encoded-accepted, encoded-decode}
-use Rattle.action.specs.Lists.{below, count}
+use Rattle.action.specs.Lists.{count}
 use Rattle.action.specs.Permutation.{Generator, Valid}
 use Rattle.action.specs.Index.{orderOf, digits}
 use Rattle.action.specs.Orbit.{reach, orbit, isIn, least, indexBack, fixes, fixing, isRepresentative}
-use Rattle.action.specs.Sector.{numerator, trivial, keeps}
+use Rattle.action.specs.Sector.{numerator, keeps, droppedBy, Drops}
 use Rattle.action.specs.Count.{allWords, allModes, representatives, keptLists, keptPairs}
-use Rattle.action.proofs.Lists.{of-member-below, count-cong, total-cong, total-map}
+use Rattle.action.proofs.Lists.{count-cong, total-cong, total-map}
+use Rattle.action.proofs.Dropped.{keeps-unless, drops-exactly}
 use Rattle.action.proofs.Pairs.{words-long}
 use Rattle.action.proofs.Canonical.{orbit-intro, orbit-elim, least-length}
 use Rattle.action.proofs.Theorems as Action
@@ -33,10 +33,9 @@ use Rattle.group.specs.Calls.{listLength}
 use Rattle.momentum.specs.Calls.{modeCount, kept, dropped, Row, decision, sectorOutcome}
 use Rattle.momentum.specs.Counts.{acceptedWords, isOwn, isKept, pairs}
 use Rattle.momentum.proofs.Decided.{kept-by, decides, decided-pairs, decided-lists}
-use Rattle.momentum.proofs.CountPairs.{count-pairs, count-both, total-select, every-false}
+use Rattle.momentum.proofs.CountPairs.{count-pairs, count-both, total-select}
 use Rattle.momentum.proofs.Words.{sameNumbers-encode}
 use Rattle.momentum.proofs.Modes.{modes-length}
-use Rattle.momentum.proofs.Traversals.{keeps-broken}
 use Rattle.momentum.proofs.Outcomes.{sector-decision}
 use Rattle.momentum.proofs.GivenGroups.{given-accepted, given-valid, given-length, given-sites}
 use Rattle.orbit.proofs.WordCalls.{word-call-passes}
@@ -52,38 +51,13 @@ orbit-all gs w u = (
 -- ---- the decision
 
 -- by whether the modes keep the word
-dropped-by : (b : Bool) (r : Row) → answer (cond b (kept r) dropped) ≡ answer dropped → b ≡ false
-dropped-by true r e = ap isKept e
-dropped-by false r e = refl
+dropped-by : (b : Bool) (r : Row) (i j : ℕ) → answer (cond b (kept r) (dropped i)) ≡ answer (dropped j) → (b ≡ false) × (i ≡ j)
+dropped-by true r i j e = let z : _≡_ {A = ℕ} 0 1 = cc in absurd (omega arith)
+dropped-by false r i j e = (refl, cc)
 
-row-by : (b : Bool) (r s : Row) → cond b (kept r) dropped ≡ kept s → r ≡ s
-row-by true r s e = cc
-row-by false r s e = let z : _≡_ {A = ℕ} 0 1 = cc in absurd (omega arith)
-
--- an index that does not fix the word asks nothing
-unless-fixed : (a b : Bool) → (not a || b) ≡ false → (a ≡ true) × (b ≡ false)
-unless-fixed true b e = (refl, e)
-unless-fixed false b e = absurd (true≢false e)
-
--- some index fixes the word and has a numerator other than 0
-abbrev Against : List Generator → List ℤ → Word → Type 0
-Against gs ks w = (i : ℕ) × (i < orderOf gs) × (fixes gs w i ≡ true) × (numerator gs ks (digits gs i) ≡ 0 → ⊥)
-
-module _ (gs : List Generator) (ks : List ℤ) (w : Word) where
-  against : keeps gs ks w ≡ false → Against gs ks w
-  unfolding keeps trivial
-  against e =
-      let (i, m, t) = every-false (λ i. not (fixes gs w i) || trivial gs ks i) (below (orderOf gs)) e in
-      let (f, n) = unless-fixed (fixes gs w i) (trivial gs ks i) t in
-      (i, of-member-below (orderOf gs) i m, f, eqb-false (numerator gs ks (digits gs i)) 0 n)
-
-  of-against : Against gs ks w → keeps gs ks w ≡ false
-  unfolding trivial
-  of-against (i, l, f, n) = keeps-broken gs ks w i l f (ne-eqb (numerator gs ks (digits gs i)) 0 n)
-
-  drops : keeps gs ks w ≡ false → decision gs ks w ≡ dropped
-  unfolding decision
-  drops e = rw e
+row-by : (b : Bool) (r s : Row) (i : ℕ) → cond b (kept r) (dropped i) ≡ kept s → r ≡ s
+row-by true r s i e = cc
+row-by false r s i e = let z : _≡_ {A = ℕ} 0 1 = cc in absurd (omega arith)
 
 module _ (g : Group) where
   abbrev gs : List Generator
@@ -112,13 +86,24 @@ module _ (g : Group) where
 
         pub kept-keeps : isKept (sectorOutcome g n bytes ks k) ≡ keeps gs ks w
         unfolding decision
-        kept-keeps = ap isKept sector-answer ∙ kept-by (keeps gs ks w) _
+        kept-keeps = ap isKept sector-answer ∙ kept-by (keeps gs ks w) _ _
 
-        pub dropped-against : (sectorOutcome g n bytes ks k ≡ answer dropped) ↔ Against gs ks w
+        pub dropped-drops : (i : ℕ) → (sectorOutcome g n bytes ks k ≡ answer (dropped i)) ↔ Drops gs ks w i
         unfolding decision
-        dropped-against = (
-          λ d. against gs ks w (dropped-by (keeps gs ks w) _ (sym sector-answer ∙ d)),
-          λ h. sector-answer ∙ ap answer (drops gs ks w (of-against gs ks w h)),
+        dropped-drops i = (
+          λ d. drops-exactly gs w ks i .1 (dropped-by (keeps gs ks w) _ (droppedBy gs ks w) i (sym sector-answer ∙ d)),
+          λ h. let (e, same) = drops-exactly gs w ks i .0 h in sector-answer ∙ rw (e, same),
+        )
+
+        -- some index drops it
+        pub dropped-some :
+            ((i : ℕ) × (sectorOutcome g n bytes ks k ≡ answer (dropped i)))
+            ↔ ((i : ℕ) × (i < orderOf gs) × (fixes gs w i ≡ true) × (numerator gs ks (digits gs i) ≡ 0 → ⊥))
+        dropped-some = (
+          λ d. let h = dropped-drops (d .0) .0 (d .1) in (d .0, h .inside, h .fixed, h .phased),
+          λ h.
+              let e = keeps-unless gs w ks .1 h in
+              (droppedBy gs ks w, dropped-drops (droppedBy gs ks w) .1 (drops-exactly gs w ks (droppedBy gs ks w) .1 (e, refl))),
         )
 
       -- what goes with a kept word
@@ -130,7 +115,7 @@ module _ (g : Group) where
       unfolding sectorOutcome decision
       kept-row ks k r e =
           let checks = wordCallChecks g n bytes ++ (modeCount g ks ∷ listLength k (g .generators) ∷ []) in
-          let row = row-by (keeps gs ks w) _ r (unless-answer checks (decision gs ks w) (kept r) e .1) in
+          let row = row-by (keeps gs ks w) _ r _ (unless-answer checks (decision gs ks w) (kept r) e .1) in
           let size : r .size ≡ length (orbit gs w) = ap (λ (x : Row). x .size) (sym row) ∙ Action.orbitSize-orbit valid w (decode-length word) in (
             index-answer ∙ ap (λ (x : Row). answer (x .word, x .index)) row,
             size,

@@ -3,17 +3,17 @@ use Prim.Native.Nat.{ℕ, suc, _<_}
 use native.Mathlib.Nat.{suc-inj, suc-ne-zero, lt-of-lt-of-le, le-mul-of-pos-right, mul-comm}
 use mathlib.Core.Path.{_≡_, refl, sym, ap, fun-ext}
 use mathlib.Core.Logic.{inl, inr}
-use mathlib.Core.Bool.{_||_, not}
+use mathlib.Core.Bool.{_||_, _&&_, not}
 use mathlib.Core.List.{List, [], _∷_}
 use lib.Dec.{eqb}
 use lib.IntN.{ℤ, pos, negsuc}
 use lib.ListN.{length}
 use Rattle.pauli_word.specs.Word.{Word}
-use Rattle.action.specs.Lists.{below, Member, every}
+use Rattle.action.specs.Lists.{below, Member, every, firstOf}
 use Rattle.action.specs.Permutation.{Generator}
 use Rattle.action.specs.Index.{orderOf, digits}
 use Rattle.action.specs.Orbit.{fixes}
-use Rattle.action.specs.Sector.{reducedModes, reducedDigits, Modes, trivial, keeps}
+use Rattle.action.specs.Sector.{reducedModes, reducedDigits, Modes, trivial, keeps, breaks, droppedBy}
 use Rattle.action.specs.Count.{allModes}
 use Rattle.action.proofs.Index.{Positive, order-of-positive}
 use Rattle.action.proofs.Characters.{modes-reduced, numerator-reduced-modes}
@@ -71,4 +71,10 @@ pub keeps-reduced : (gs : List Generator) (ks : List ℤ) (w : Word) → keeps g
 unfolding keeps trivial
 keeps-reduced gs ks w =
     ap (λ (f : ℕ → ℕ). every (λ i. not (fixes gs w i) || eqb (f i) 0) (below (orderOf gs)))
+    (fun-ext (λ i. numerator-reduced-modes gs ks (digits gs i)))
+
+pub dropped-reduced : (gs : List Generator) (ks : List ℤ) (w : Word) → droppedBy gs (reducedModes gs ks) w ≡ droppedBy gs ks w
+unfolding droppedBy breaks trivial
+dropped-reduced gs ks w =
+    ap (λ (f : ℕ → ℕ). firstOf 0 (λ i. fixes gs w i && not (eqb (f i) 0)) (below (orderOf gs)))
     (fun-ext (λ i. numerator-reduced-modes gs ks (digits gs i)))

@@ -22,7 +22,7 @@ use Rattle.outcome.proofs.Outcomes.{unless-answer}
 use Rattle.momentum.specs.Calls.{modeCount, numeratorOutcome, numerators, tableOutcome, decision, sectorOutcome}
 use Rattle.momentum.proofs.Outcomes as Outcomes
 use Rattle.momentum.proofs.GivenGroups.{given-accepted, given-valid, given-length}
-use Rattle.momentum.proofs.Modes.{reducedModes-length, reducedDigits-length, reduced-listed, keeps-reduced}
+use Rattle.momentum.proofs.Modes.{reducedModes-length, reducedDigits-length, reduced-listed, keeps-reduced, dropped-reduced}
 use Rattle.pauli_word.specs.Bytes.{lettersIn}
 
 -- a list of what each number below n is put to, by its places
@@ -71,7 +71,7 @@ module _ (g : Group) where
 
     pub sector-reduced : (n : ℕ) (bytes : List ℕ) (k : ℕ) → sectorOutcome g n bytes ks k ≡ sectorOutcome g n bytes (reducedModes gs ks) k
     unfolding sectorOutcome decision
-    sector-reduced n bytes k = rw (same-count, keeps-reduced gs ks (lettersIn n bytes))
+    sector-reduced n bytes k = rw (same-count, keeps-reduced gs ks (lettersIn n bytes), dropped-reduced gs ks (lettersIn n bytes))
 
     pub table-answer : (k : ℕ) → k ≡ orderOf gs → tableOutcome g ks k ≡ answer (numerators gs ks)
     table-answer = Outcomes.table-answer g (given-accepted g given) ks modes

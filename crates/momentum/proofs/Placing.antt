@@ -1,15 +1,23 @@
 -- What a decision comes to, by whether the modes keep the word.
-use Prim.Native.Nat.{ℕ}
-use mathlib.Core.Path.{_≡_}
+use Prim.Native.Nat.{ℕ, _%_, _<_}
+use native.Mathlib.Nat.{mod-eq-of-lt, mod-self}
+use native.Mathlib.Omega.{arith}
+use mathlib.Core.Path.{_≡_, sym, _∙_, ap}
+use mathlib.Core.Logic.{⊎-elim}
 use mathlib.Core.Bool.{true, false}
 use mathlib.Core.List.{List}
 use lib.IntN.{ℤ}
+use borrow.Author.Tests.{eqb-true}
 use Rattle.pauli_word.specs.Word.{Word}
 use Rattle.pauli_word.specs.Bytes.{bytesOf}
 use Rattle.action.specs.Permutation.{Generator}
-use Rattle.action.specs.Index.{inverse}
-use Rattle.action.specs.Orbit.{least, forward, indexBack, orbitSize}
-use Rattle.action.specs.Sector.{keeps}
+use Rattle.action.specs.Index.{orderOf, digits, inverse}
+use Rattle.action.specs.Orbit.{least, forward, indexBack, fixes, orbitSize}
+use Rattle.action.specs.Sector.{numerator, trivial, keeps, breaks, droppedBy}
+use Rattle.action.proofs.Dropped.{some-breaks, breaks-elim, unbroken-intro, dropped-is}
+use Rattle.packed.proofs.Shifts.{below-or-not}
+use Rattle.rotation.proofs.XPlane.{trivial-zero}
+use Rattle.paths.specs.Paths.{ByStep}
 use Rattle.orbit.specs.Calls.{noWord}
 use Rattle.momentum.specs.declared.inner.Placement.the-variants as Placement
 use Rattle.momentum.specs.Calls.{decision, rowWord}
@@ -26,11 +34,29 @@ module _ (gs : List Generator) (ks : List ℤ) (w : Word) where
   unfolding decision
   keeps-word k = rw k
 
-  -- dropped
-  pub drops-placed : keeps gs ks w ≡ false → Placement.Dropped ≡ placementOf (decision gs ks w)
+  -- dropped, by the smallest index that breaks the word
+  pub drops-placed : keeps gs ks w ≡ false → {i : ℕ} → droppedBy gs ks w ≡ i → Placement.Dropped i ≡ placementOf (decision gs ks w)
   unfolding decision
-  drops-placed k = rw k
+  drops-placed k h = rw (k, h)
 
   pub drops-word : keeps gs ks w ≡ false → noWord ≡ rowWord (decision gs ks w)
   unfolding decision
   drops-word k = rw k
+
+  -- where the multiples of a step fix the word, and the step's numerator is not 0, by the step
+  module _ {step : ℕ} (by : ByStep step gs w) where
+    -- no index below it fixes the word, but 0
+    below-step : (i : ℕ) → i < orderOf gs → i < step → fixes gs w i ≡ true → numerator gs ks (digits gs i) ≡ 0
+    unfolding trivial
+    below-step i inside less f =
+        let zero : i ≡ 0 = sym (mod-eq-of-lt less) ∙ eqb-true (i % step) 0 (sym (by .multiples i inside) ∙ f) in
+        ap (λ (j : ℕ). numerator gs ks (digits gs j)) zero ∙ eqb-true (numerator gs ks (digits gs 0)) 0 (trivial-zero gs ks)
+
+    pub step-drops : trivial gs ks step ≡ false → droppedBy gs ks w ≡ step
+    unfolding breaks
+    step-drops t =
+        let (i, inside, b) = some-breaks gs ks w (by .kept ks ∙ t) in
+        let (f, n) = breaks-elim gs ks w i b in
+        let within : step < orderOf gs = ⊎-elim (λ h. absurd (n (below-step i inside h f))) (λ h. omega (arith, h, inside)) (below-or-not i step) in
+        dropped-is gs ks w step within (rw (by .multiples step within, mod-self step, t))
+        (λ j h. unbroken-intro gs ks w j (below-step j (omega (arith, h, within)) h))

@@ -4,7 +4,7 @@
 use Prim.Native.Nat.{ℕ, _+_, _≤_, _<_, _/_}
 use mathlib.Core.Path.{_≡_, refl, sym, ap, _∙_}
 use mathlib.Core.Logic.{⊎-elim}
-use mathlib.Core.Bool.{Bool, true, false, _||_, not, cond, false≢true}
+use mathlib.Core.Bool.{Bool, true, false, _||_, not, cond}
 use mathlib.Core.List.{List, [], _∷_, _++_}
 use native.Mathlib.Omega.{arith}
 use lib.IntN.{ℤ}
@@ -20,8 +20,9 @@ use Rattle.action.specs.Lists.{from, below, Member, count, every}
 use Rattle.action.specs.Permutation.{Generator, Valid}
 use Rattle.action.specs.Index.{orderOf, inverse}
 use Rattle.action.specs.Orbit.{reach, least, forward, fixes, fixing, indexBack, orbitSize}
-use Rattle.action.specs.Sector.{trivial, keeps}
+use Rattle.action.specs.Sector.{trivial, keeps, breaks}
 use Rattle.action.proofs.Lists.{member-below, length-below, of-member-append, every-intro, every-elim, count-select, count-append}
+use Rattle.action.proofs.Dropped.{breaks-test, keeps-broken, dropped-is}
 use Rattle.action.proofs.Reach.{reach-length}
 use Rattle.action.proofs.Stabilizer.{fixing-positive}
 use Rattle.elements.specs.HeldGroup.{generatorsIn, Tables}
@@ -34,6 +35,7 @@ use Rattle.momentum.specs.declared.stabilizer.Test.{Test}
 use Rattle.momentum.specs.declared.stabilizer.Test.the-variants as Test
 use Rattle.momentum.specs.Calls.{Decision, kept, dropped, Row, decision, rowWord}
 use Rattle.momentum.specs.Parts.{testOf, placementOf}
+use Rattle.momentum.proofs.Placing.{drops-placed, drops-word}
 
 -- ---- tests of the numbers below i + 1
 
@@ -171,43 +173,34 @@ module _ (gs : List Generator) (ks : List ℤ) (w : Word) where
       unfolding decision
       word-kept = rw all-kept
 
-  -- an index that breaks
-  module _ (i : ℕ) (inside : i < orderOf gs) where
-    pub keeps-broken : fixes gs w i ≡ true → trivial gs ks i ≡ false → keeps gs ks w ≡ false
-    unfolding keeps
-    keeps-broken f t = go (keeps gs ks w) refl
-      where
-        go : (b : Bool) → keeps gs ks w ≡ b → b ≡ false
-        go true h =
-            let each : (not (fixes gs w i) || trivial gs ks i) ≡ true = every-elim _ (below (orderOf gs)) h i (member-below (orderOf gs) i inside) in
-            absurd (false≢true (sym t ∙ rw f at each))
-        go false h = refl
+    -- the first index that breaks the word
+    module _ (inside : i < orderOf gs) (e : testOf gs ks w i ≡ Test.Breaks) where
+      broken : breaks gs ks w i ≡ true
+      unfolding breaks
+      broken = let (f, t) = of-breaks gs ks w i e in rw (f, t)
 
-    module _ (e : testOf gs ks w i ≡ Test.Breaks) where
-      drops : keeps gs ks w ≡ false
-      drops = let (f, t) = of-breaks gs ks w i e in keeps-broken f t
+      none : (j : ℕ) → j < i → breaks gs ks w j ≡ false
+      none j h = breaks-test gs ks w j ∙ ap not (every-elim _ (below i) (p .1) j (member-below i j h))
 
-      pub placed-broken : Placement.Dropped ≡ placementOf (decision gs ks w)
-      unfolding decision
-      placed-broken = rw drops
+      pub placed-broken : Placement.Dropped i ≡ placementOf (decision gs ks w)
+      placed-broken = drops-placed gs ks w (keeps-broken gs ks w i inside broken) (dropped-is gs ks w i inside broken none)
 
       pub word-broken : noWord ≡ rowWord (decision gs ks w)
-      unfolding decision
-      word-broken = rw drops
+      word-broken = drops-word gs ks w (keeps-broken gs ks w i inside broken)
 
 -- ---- what the numbers of a decision say of it
 
 module _ (d : Decision Row) where
-  pub placed-dropped : placementOf d ≡ Placement.Dropped → d ≡ dropped
-  placed-dropped e = go d e
+  pub placed-dropped : {i : ℕ} → placementOf d ≡ Placement.Dropped i → d ≡ dropped i
+  placed-dropped {i} e = go d e
     where
-      go : (x : Decision Row) → placementOf x ≡ Placement.Dropped → x ≡ dropped
+      go : (x : Decision Row) → placementOf x ≡ Placement.Dropped i → x ≡ dropped i
       go (kept r) h = let z : _≡_ {A = ℕ} 0 1 = cc in absurd (omega arith)
-      go dropped h = refl
+      go (dropped j) h = cc
 
   pub placed-row : {i size : ℕ} → placementOf d ≡ Placement.Kept i size → (r : Row) × (d ≡ kept r) × (r .index ≡ i) × (r .size ≡ size)
   placed-row {i} {size} e = go d e
     where
       go : (x : Decision Row) → placementOf x ≡ Placement.Kept i size → (r : Row) × (x ≡ kept r) × (r .index ≡ i) × (r .size ≡ size)
       go (kept r) h = (r, refl, cc, cc)
-      go dropped h = let z : _≡_ {A = ℕ} 0 1 = cc in absurd (omega arith)
+      go (dropped j) h = let z : _≡_ {A = ℕ} 0 1 = cc in absurd (omega arith)

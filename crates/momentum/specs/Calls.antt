@@ -12,7 +12,7 @@ use Rattle.action.specs.Lists.{below}
 use Rattle.action.specs.Permutation.{Generator}
 use Rattle.action.specs.Index.{orderOf, digits}
 use Rattle.action.specs.Orbit.{least, indexBack, orbitSize}
-use Rattle.action.specs.Sector.{numerator, keeps}
+use Rattle.action.specs.Sector.{numerator, keeps, droppedBy}
 use Rattle.group.specs.declared.Group.{Group}
 use Rattle.group.specs.Value.{generatorsOf}
 use Rattle.orbit.specs.Calls.{wordCallChecks, noWord}
@@ -45,10 +45,10 @@ tableOutcome g ks k =
 
 -- ---- canonicalize_in_sector: 1, 14, 15, 16, 17, 18, 21, then the decision; k is the length of the counter list
 
--- whether modes keep a word, and what goes with a kept one
+-- whether modes keep a word, with what goes with a kept one, and the index that drops a dropped one
 pub data Decision (A : Type 0) : Type 0 where
   kept : A → Decision A
-  dropped : Decision A
+  dropped : ℕ → Decision A
 
 -- what goes with a kept word: the least word of its orbit, the index that leads from it back to the word, and the orbit size
 pub record Row : Type 0 where
@@ -56,31 +56,32 @@ pub record Row : Type 0 where
   pub index : ℕ
   pub size : ℕ
 
--- dropped exactly if some index that fixes the word has a numerator other than 0
+-- dropped exactly if some index that fixes the word has a numerator other than 0, by the smallest such index
 unfoldable pub decision : List Generator → List ℤ → Word → Decision Row
-decision gs ks w = cond (keeps gs ks w) (kept (record { word = least gs w; index = indexBack gs w; size = orbitSize gs w })) dropped
+decision gs ks w =
+    cond (keeps gs ks w) (kept (record { word = least gs w; index = indexBack gs w; size = orbitSize gs w })) (dropped (droppedBy gs ks w))
 
 unfoldable pub sectorOutcome : Group → ℕ → List ℕ → List ℤ → ℕ → Outcome (Decision Row)
 sectorOutcome g n bytes ks k =
     unless (wordCallChecks g n bytes ++ (modeCount g ks ∷ listLength k (g .generators) ∷ []))
     (answer (decision (generatorsOf g) ks (lettersIn n bytes)))
 
--- `Kept` carries the orbit size
+-- `Kept` carries the orbit size, `Dropped` the index that drops the word
 abbrev pub outcomeOfSector : Sector → Outcome (Decision ℕ)
 outcomeOfSector (Sector.Kept size) = answer (kept size)
-outcomeOfSector Sector.Dropped = answer dropped
+outcomeOfSector (Sector.Dropped index) = answer (dropped index)
 outcomeOfSector (Sector.Refused why) = refusalOf why
 
 abbrev pub sizeOf : Decision Row → Decision ℕ
 sizeOf (kept r) = kept (r .size)
-sizeOf dropped = dropped
+sizeOf (dropped i) = dropped i
 
 -- the word beside the answer: zeros beside a dropped one
 abbrev pub rowWord : Decision Row → List ℕ
 rowWord (kept r) = bytesOf (r .word)
-rowWord dropped = noWord
+rowWord (dropped i) = noWord
 
 -- the counter list afterwards: the digits of the index, or as it was where the word is dropped
 abbrev pub rowCounter : List Generator → List ℕ → Decision Row → List ℕ
 rowCounter gs list (kept r) = digits gs (r .index)
-rowCounter gs list dropped = list
+rowCounter gs list (dropped i) = list

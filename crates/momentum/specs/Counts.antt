@@ -24,7 +24,7 @@ isOwn bytes (answer p) = sameNumbers (wordOf p) bytes
 abbrev pub isKept : Outcome (Decision Row) → Bool
 isKept (refused k vs) = false
 isKept (answer (kept r)) = true
-isKept (answer dropped) = false
+isKept (answer (dropped i)) = false
 
 -- each member of a list with each member of another
 unfoldable pub pairs : {A B : Type 0} → List A → List B → List (A × B)

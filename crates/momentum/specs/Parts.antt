@@ -17,7 +17,12 @@ use Rattle.momentum.specs.Calls.{Decision, kept, dropped, Row}
 abbrev pub testOf : List Generator → List ℤ → Word → ℕ → Test
 testOf gs ks w i = cond (fixes gs w i) (cond (trivial gs ks i) Test.Fixes Test.Breaks) Test.Moves
 
--- a decision by its numbers: the index that leads from the least word to the word, and the orbit size
+-- a decision by its numbers: of a kept word the index that leads from the least word to it, and the orbit size; of a dropped one the index that drops it
 abbrev pub placementOf : Decision Row → Placement
 placementOf (kept r) = Placement.Kept (r .index) (r .size)
-placementOf dropped = Placement.Dropped
+placementOf (dropped i) = Placement.Dropped i
+
+-- the index of either
+abbrev pub indexIn : Placement → ℕ
+indexIn (Placement.Kept index size) = index
+indexIn (Placement.Dropped index) = index

@@ -109,7 +109,7 @@ pub fn decided(group: Group, word: &[u8], modes: &[i32], counter: &mut [u32]) ->
     let found = inner::placement_of(group, word, modes);
     let answer = found.answer;
     let Placement::Kept(index, size) = answer else {
-        return no_row(Sector::Dropped);
+        return no_row(Sector::Dropped(answer.index()));
     };
     let targets = group.targets;
     let orders = group.orders;

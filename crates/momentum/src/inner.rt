@@ -4,7 +4,7 @@ ghost use lib.ListN.{length};
 ghost use Rattle.pauli_word.specs.Bytes.{AcceptedWord, lettersIn};
 ghost use Rattle.group.specs.Value.{generatorsOf, AcceptedGroup};
 ghost use Rattle.momentum.specs.Calls.{rowWord, decision};
-ghost use Rattle.momentum.specs.Parts.{placementOf};
+ghost use Rattle.momentum.specs.Parts.{placementOf, indexIn};
 use crate::stabilizer;
 use group::Group;
 use pauli_word::WORD_BYTES;
@@ -13,7 +13,20 @@ use pauli_word::WORD_BYTES;
 pub enum Placement {
     // They keep it: the index that leads from the least word to the word, and the orbit size.
     Kept(usize, usize),
-    Dropped,
+    // They drop it: the smallest index that fixes it with a numerator other than 0.
+    Dropped(usize),
+}
+
+impl Placement {
+    // The index of either, also where a caller has only learnt that the word is not kept.
+    pub fn index(self) -> usize
+        ensures { λ r. ⌜ r ≡ indexIn self ⌝ }
+    {
+        match self {
+            Placement::Kept(index, _) => index,
+            Placement::Dropped(index) => index,
+        }
+    }
 }
 
 // The least word beside it; zeros where the word is dropped.

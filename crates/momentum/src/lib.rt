@@ -24,8 +24,8 @@ use pauli_word::WORD_BYTES;
 pub enum Sector {
     // They keep it; its orbit has this many different words.
     Kept(usize),
-    // Some index fixes the word with a numerator other than 0.
-    Dropped,
+    // They drop it: this is the smallest index that fixes the word with a numerator other than 0.
+    Dropped(usize),
     Refused(Refusal),
 }
 
@@ -58,7 +58,8 @@ pub fn character_table(group: Group, modes: &[i32], list: &mut [usize]) -> Verdi
 }
 
 // Whether modes keep a word: dropped exactly if some index that fixes it has a numerator other than 0. A kept word comes with the least word of
-// its orbit, the counter of the index that leads from there back to the word, into a list with a place for each generator, and the orbit size.
+// its orbit, the counter of the index that leads from there back to the word, into a list with a place for each generator, and the orbit size; a
+// dropped one with the smallest such index, and the list stays.
 // One traversal of the group, up to the first index that drops the word.
 pub fn canonicalize_in_sector(
     group: Group,

@@ -12,7 +12,7 @@ ghost use Rattle.paths.specs.Paths.{Ready};
 ghost use mathlib.Core.Bool.{true};
 ghost use Rattle.orbit.specs.Calls.{noWord};
 ghost use Rattle.momentum.specs.Parts.{testOf, placementOf};
-ghost use Rattle.momentum.specs.Calls.{decision, rowWord, dropped};
+ghost use Rattle.momentum.specs.Calls.{decision, rowWord};
 use crate::inner::Placed;
 use crate::inner::Placement;
 use crate::phase;
@@ -61,18 +61,18 @@ pub fn tested(
     }
 }
 
-// A traversal that has met an index that drops the word.
-pub fn dropped() -> Placed
-    ensures { λ r. ⌜ (r .answer ≡ Placement.Dropped) × (r .word ≡ noWord) ⌝ }
+// A dropped word: the index that drops it.
+pub fn dropped(index: usize) -> Placed
+    ensures { λ r. ⌜ (r .answer ≡ Placement.Dropped index) × (r .word ≡ noWord) ⌝ }
 {
     Placed {
-        answer: Placement::Dropped,
+        answer: Placement::Dropped(index),
         word: [0u8; WORD_BYTES],
     }
 }
 
-// One traversal of the group, with phase modulus m: it stops at the first fixing index with a numerator other than 0, and else gives the least
-// word, the index that leads back from it and the orbit size.
+// One traversal of the group, with phase modulus m: it stops at the first fixing index with a numerator other than 0, which it gives, and else gives
+// the least word, the index that leads back from it and the orbit size.
 pub fn canonicalize_with_stabilizer(
     targets: &[u32],
     orders: &[u32],
@@ -107,7 +107,7 @@ pub fn canonicalize_with_stabilizer(
     let mut i = 0;
     while i < order {
         match tested(targets, orders, generators, sites, m, modes, i, &here, word) {
-            Test::Breaks => return dropped(),
+            Test::Breaks => return dropped(i),
             Test::Fixes => fixing += 1,
             Test::Moves => {}
         }
@@ -205,7 +205,7 @@ pub fn kept(
 }
 
 // The decision, by the path that the group takes: a word that index 0 alone fixes is kept, one that the multiples of a step fix is kept just if the
-// step has numerator 0, and all others are traversed.
+// step has numerator 0, and else dropped by the step, and all others are traversed.
 pub fn placed(
     targets: &[u32],
     orders: &[u32],
@@ -242,7 +242,7 @@ pub fn placed(
             if phase::trivial(targets, orders, generators, sites, m, modes, step) {
                 kept(targets, orders, generators, sites, found.index, step, least)
             } else {
-                dropped()
+                dropped(step)
             }
         }
     }

@@ -30,7 +30,8 @@ use Rattle.action.specs.Lists.{every, sameNumbers}
 use Rattle.action.specs.Permutation.{Generator, Valid}
 use Rattle.action.specs.Index.{orderOf}
 use Rattle.action.specs.Orbit.{least, indexBack, orbitSize, fixing}
-use Rattle.action.specs.Sector.{keeps}
+use Rattle.action.specs.Sector.{keeps, droppedBy}
+use Rattle.action.proofs.Dropped.{dropped-breaks}
 use Rattle.action.proofs.Canonical.{least-length, back-below}
 use Rattle.permutation.specs.Limits.{maxOrder}
 use Rattle.momentum.specs.declared.inner.Placement.{Placement}
@@ -114,14 +115,17 @@ unfolding rest
 end-length f = omega (arith, length-append f (lineEnd ∷ []))
 
 -- what follows a word has at most so many bytes
-pub dropped-short : (k : ℕ) → k < maxWritten → length (rest (missing ∷ missing ∷ missing ∷ decimal k ∷ zeroText ∷ [])) ≤ numberRoom + 9
-dropped-short k h =
+pub dropped-short :
+    (i k : ℕ) → i < maxWritten → k < maxWritten
+    → length (rest (missing ∷ decimal i ∷ missing ∷ decimal k ∷ zeroText ∷ [])) ≤ 2 * numberRoom + 7
+dropped-short i k hi hk =
     let more : List (List ℕ) = decimal k ∷ zeroText ∷ [] in
     omega (
       arith,
-      written-short k h,
-      rest-length missing (missing ∷ missing ∷ more),
-      rest-length missing (missing ∷ more),
+      written-short i hi,
+      written-short k hk,
+      rest-length missing (decimal i ∷ missing ∷ more),
+      rest-length (decimal i) (missing ∷ more),
       rest-length missing more,
       rest-length (decimal k) (zeroText ∷ []),
       end-length zeroText,
@@ -149,10 +153,10 @@ kept-short f i j k hi hj hk =
 
 -- the pieces of what follows a word
 pub dropped-pieces :
-    (k : ℕ) → (space ∷ 45 ∷ space ∷ 45 ∷ space ∷ 45 ∷ []) ++ ((space ∷ decimal k) ++ (space ∷ 48 ∷ lineEnd ∷ []))
-    ≡ rest (missing ∷ missing ∷ missing ∷ decimal k ∷ zeroText ∷ [])
+    (i k : ℕ) → (space ∷ missing) ++ ((space ∷ decimal i) ++ ((space ∷ missing) ++ ((space ∷ decimal k) ++ (space ∷ 48 ∷ lineEnd ∷ []))))
+    ≡ rest (missing ∷ decimal i ∷ missing ∷ decimal k ∷ zeroText ∷ [])
 unfolding rest
-dropped-pieces k = refl
+dropped-pieces i k = refl
 
 pub numbers-pieces :
     (i j k : ℕ) → ((space ∷ decimal i) ++ (space ∷ decimal j)) ++ ((space ∷ decimal k) ++ (space ∷ 49 ∷ lineEnd ∷ []))
@@ -229,20 +233,31 @@ module _ (gs : List Generator) (ks : List ℤ) (text : List ℕ) (alone : letter
   abbrev w : Word
   w = readText text
 
-  -- without a least word
-  pub row-dropped :
-      placementOf (decision gs ks w) ≡ Placement.Dropped
-      → row gs w ks ≡ text ++ rest (missing ∷ missing ∷ missing ∷ decimal (weight w) ∷ zeroText ∷ [])
-  unfolding row
-  row-dropped e =
-      let none : decision gs ks w ≡ dropped = placed-dropped (decision gs ks w) e in
-      rw none (joined-rest (spell w) (missing ∷ missing ∷ missing ∷ decimal (weight w) ∷ zeroText ∷ [])
-      ∙ ap (λ (f : List ℕ). f ++ rest (missing ∷ missing ∷ missing ∷ decimal (weight w) ∷ zeroText ∷ [])) (spell-readText text alone))
-
   -- what goes with a kept word, by its numbers
   abbrev found : ℕ → ℕ → Row
   found i size = record { word = least gs w; index = i; size = size }
 
+  -- without a least word
+  module _ {i : ℕ} (e : placementOf (decision gs ks w) ≡ Placement.Dropped i) where
+    pub row-dropped : row gs w ks ≡ text ++ rest (missing ∷ decimal i ∷ missing ∷ decimal (weight w) ∷ zeroText ∷ [])
+    unfolding row
+    row-dropped =
+        let none : decision gs ks w ≡ dropped i = placed-dropped (decision gs ks w) e in
+        rw none (joined-rest (spell w) (missing ∷ decimal i ∷ missing ∷ decimal (weight w) ∷ zeroText ∷ [])
+        ∙ ap (λ (f : List ℕ). f ++ rest (missing ∷ decimal i ∷ missing ∷ decimal (weight w) ∷ zeroText ∷ [])) (spell-readText text alone))
+
+    pub dropped-small : orderOf gs ≤ maxOrder → i < maxWritten
+    unfolding decision
+    dropped-small small = go (keeps gs ks w) refl e
+      where
+        go :
+            (b : Bool) → keeps gs ks w ≡ b
+            → placementOf (cond b (kept (found (indexBack gs w) (orbitSize gs w))) (dropped (droppedBy gs ks w))) ≡ Placement.Dropped i
+            → i < maxWritten
+        go true k h = let z : _≡_ {A = ℕ} 0 1 = cc in absurd (omega arith)
+        go false k h = let same : droppedBy gs ks w ≡ i = cc in omega (arith, same, dropped-breaks gs ks w k .0)
+
+  -- with one
   module _ {i size : ℕ} (e : placementOf (decision gs ks w) ≡ Placement.Kept i size) where
     -- where it stands
     kept-is : (decision gs ks w ≡ kept (found i size)) × (indexBack gs w ≡ i) × (orbitSize gs w ≡ size)
@@ -250,8 +265,8 @@ module _ (gs : List Generator) (ks : List ℤ) (text : List ℕ) (alone : letter
     kept-is = go (keeps gs ks w) e
       where
         go :
-            (b : Bool) → placementOf (cond b (kept (found (indexBack gs w) (orbitSize gs w))) dropped) ≡ Placement.Kept i size
-            → (cond b (kept (found (indexBack gs w) (orbitSize gs w))) dropped ≡ kept (found i size)) × (indexBack gs w ≡ i) × (orbitSize gs w ≡ size)
+            (b : Bool) → placementOf (cond b (kept (found (indexBack gs w) (orbitSize gs w))) (dropped (droppedBy gs ks w))) ≡ Placement.Kept i size
+            → (cond b (kept (found (indexBack gs w) (orbitSize gs w))) (dropped (droppedBy gs ks w)) ≡ kept (found i size)) × (indexBack gs w ≡ i) × (orbitSize gs w ≡ size)
         go true h =
             let x : indexBack gs w ≡ i = cc in
             let y : orbitSize gs w ≡ size = cc in

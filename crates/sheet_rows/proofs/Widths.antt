@@ -1,7 +1,7 @@
 -- How long rows are: a row of n letters has at most two words and the room of three numbers, and so at most `spread` times the bytes of its line.
 -- What carries it: an index, an orbit size and a weight have at most `maxDigits` digits (`written-short`).
 use Prim.Native.Nat.{ℕ, _+_, _*_, _≤_, _<_}
-use mathlib.Core.Path.{_≡_, _∙_}
+use mathlib.Core.Path.{_≡_, refl, _∙_}
 use mathlib.Core.Bool.{Bool, true, false, cond}
 use mathlib.Core.List.{List, [], _∷_, map}
 use native.Mathlib.Nat.{div-le-self}
@@ -14,7 +14,8 @@ use Rattle.pauli_word.specs.Text.{glyph, letter, readText, spell}
 use Rattle.action.specs.Permutation.{Generator, Valid}
 use Rattle.action.specs.Index.{orderOf}
 use Rattle.action.specs.Orbit.{least, indexBack, fixing, orbitSize}
-use Rattle.action.specs.Sector.{keeps}
+use Rattle.action.specs.Sector.{keeps, droppedBy}
+use Rattle.action.proofs.Dropped.{dropped-breaks}
 use Rattle.action.proofs.Canonical.{least-length, back-below}
 use Rattle.permutation.specs.Limits.{maxOrder}
 use Rattle.text.specs.Text.{decimal, modeOf, maxWritten}
@@ -45,7 +46,7 @@ module _ {n : ℕ} {gs : List Generator} (valid : Valid n gs) (small : orderOf g
 
   pub row-short : (ks : List ℤ) → length (row gs w ks) ≤ 2 * n + 1 + numbersRoom
   unfolding row decision
-  row-short ks = go (keeps gs ks w)
+  row-short ks = go (keeps gs ks w) refl
     where
       spelled : (v : Word) → length (spell v) ≡ length v
       spelled v = length-map v glyph
@@ -53,8 +54,8 @@ module _ {n : ℕ} {gs : List Generator} (valid : Valid n gs) (small : orderOf g
       found : Row
       found = record { word = least gs w; index = indexBack gs w; size = orbitSize gs w }
 
-      go : (b : Bool) → length (joined (rowFields w (cond b (kept found) dropped))) ≤ 2 * n + 1 + numbersRoom
-      go true =
+      go : (b : Bool) → keeps gs ks w ≡ b → length (joined (rowFields w (cond b (kept found) (dropped (droppedBy gs ks w))))) ≤ 2 * n + 1 + numbersRoom
+      go true k =
           rw (six (spell w) (spell (least gs w)) (decimal (indexBack gs w)) (decimal (orbitSize gs w)) (decimal (weight w)) oneText)
           (omega (
             arith,
@@ -65,9 +66,14 @@ module _ {n : ℕ} {gs : List Generator} (valid : Valid n gs) (small : orderOf g
             written-short (orbitSize gs w) size-small,
             written-short (weight w) weight-few,
           ))
-      go false =
-          rw (six (spell w) missing missing missing (decimal (weight w)) zeroText)
-          (omega (arith, spelled w, written-short (weight w) weight-few))
+      go false k =
+          rw (six (spell w) missing (decimal (droppedBy gs ks w)) missing (decimal (weight w)) zeroText)
+          (omega (
+            arith,
+            spelled w,
+            written-short (droppedBy gs ks w) (omega (arith, dropped-breaks gs ks w k .0)),
+            written-short (weight w) weight-few,
+          ))
 
 -- a value line that breaks no rule, in a group of order within the limit
 module _ {n : ℕ} {gs : List Generator} (valid : Valid n gs) (small : orderOf gs ≤ maxOrder) (few : n ≤ maxSites) (used : ℕ) (line : List ℕ)

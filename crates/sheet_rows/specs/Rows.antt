@@ -42,10 +42,10 @@ refusalLine number line = joined (refusedName ∷ decimal number ∷ decimal lin
 -- ---- rows
 
 -- the fields of a row: the word, its least word, the index that leads from there back to it, the orbit size, the weight, and 1 if the modes keep it;
--- a dropped word has no least word, index and orbit size, and 0
+-- a dropped word has the index that drops it, no least word and orbit size, and 0
 abbrev pub rowFields : Word → Decision Row → List (List ℕ)
 rowFields w (kept r) = spell w ∷ spell (r .word) ∷ decimal (r .index) ∷ decimal (r .size) ∷ decimal (weight w) ∷ oneText ∷ []
-rowFields w dropped = spell w ∷ missing ∷ missing ∷ missing ∷ decimal (weight w) ∷ zeroText ∷ []
+rowFields w (dropped i) = spell w ∷ missing ∷ decimal i ∷ missing ∷ decimal (weight w) ∷ zeroText ∷ []
 
 -- the row of a word under modes
 unfoldable pub row : List Generator → Word → List ℤ → List ℕ

@@ -66,21 +66,23 @@ fn word_row(group: Group, modes: &[i32], word: &[u8], list: &mut [u8], at: usize
     let place = momentum::inner::placement_of(group, &read, modes);
     let answer = place.answer;
     let Placement::Kept(index, size) = answer else {
-        return dropped_row(list, end, weight);
+        return dropped_row(list, end, answer.index(), weight);
     };
     let least = place.word;
     kept_row(list, end, group.sites, least, index, size, weight)
 }
 
 // What follows the word of a dropped row.
-fn dropped_row(list: &mut [u8], at: usize, weight: usize) -> usize
-    requires { ⌜ (weight < maxWritten) × (at + (numberRoom + 9) ≤ length (now list)) ⌝ }
-    ensures place { λ r. ⌜ r ≡ at + length (rest (missing ∷ missing ∷ missing ∷ decimal weight ∷ zeroText ∷ [])) ⌝ }
-    ensures list { λ _. ⌜ now (list .exit) ≡ put at (rest (missing ∷ missing ∷ missing ∷ decimal weight ∷ zeroText ∷ [])) (now (list .entry)) ⌝ }
+fn dropped_row(list: &mut [u8], at: usize, index: usize, weight: usize) -> usize
+    requires { ⌜ (index < maxWritten) × (weight < maxWritten) × (at + (2 * numberRoom + 7) ≤ length (now list)) ⌝ }
+    ensures place { λ r. ⌜ r ≡ at + length (rest (missing ∷ decimal index ∷ missing ∷ decimal weight ∷ zeroText ∷ [])) ⌝ }
+    ensures list { λ _. ⌜ now (list .exit) ≡ put at (rest (missing ∷ decimal index ∷ missing ∷ decimal weight ∷ zeroText ∷ [])) (now (list .entry)) ⌝ }
 {
-    let a = text::write::append(list, at, b" - - -");
-    let b = append_number(list, a, weight);
-    text::write::append(list, b, b" 0\n")
+    let a = text::write::append(list, at, b" -");
+    let b = append_number(list, a, index);
+    let c = text::write::append(list, b, b" -");
+    let d = append_number(list, c, weight);
+    text::write::append(list, d, b" 0\n")
 }
 
 // What follows the word of a kept row.

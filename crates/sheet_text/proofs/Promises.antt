@@ -82,8 +82,9 @@ row-line gs w ks = go (decision gs ks w)
     go (kept r) =
         joined-one (spell w) (spell (r .word) ∷ decimal (r .index) ∷ decimal (r .size) ∷ decimal (weight w) ∷ oneText ∷ [])
         (rw (spell-whole w, spell-whole (r .word), decimal-whole (r .index), decimal-whole (r .size), decimal-whole (weight w)))
-    go dropped =
-        joined-one (spell w) (missing ∷ missing ∷ missing ∷ decimal (weight w) ∷ zeroText ∷ []) (rw (spell-whole w, decimal-whole (weight w)))
+    go (dropped i) =
+        joined-one (spell w) (missing ∷ decimal i ∷ missing ∷ decimal (weight w) ∷ zeroText ∷ [])
+        (rw (spell-whole w, decimal-whole i, decimal-whole (weight w)))
 
 module _ (input : List ℕ) where
   -- the line of the shape

@@ -1,6 +1,6 @@
 -- `gomurin_canonicalize_in_sector` meets its contract: it tells what `momentum::canonicalize_in_sector` comes to.
-use Rattle.c_api.proofs.Telling.{else-told, kept-row, number-told, size-row, values-told}
-use Rattle.c_api.specs.Told.{groupIn, isKept, sizeIn}
+use Rattle.c_api.proofs.Telling.{drop-row, else-told, kept-row, number-told, size-row, values-told}
+use Rattle.c_api.specs.Told.{dropIndex, groupIn, isKept, sizeIn}
 use Rattle.group.specs.Value.{generatorsOf}
 use Rattle.group.specs.declared.Group.{Group}
 use Rattle.momentum.specs.Calls.{rowCounter, rowWord, sectorOutcome, sizeOf}
@@ -28,21 +28,24 @@ same-length c = search needs
 
 returns : tie.Need-returns
 returns c =
-    let a = c .before .before .before .before .before .before .before .before .before .before .before .before .args in
-    let same = c .before .before .before .before .before .before .before .before .before .group-in .ensures in
+    let a = c .before .before .before .before .before .before .before .before .before .before .before .before .before .args in
+    let same = c .before .before .before .before .before .before .before .before .before .before .group-in .ensures in
     let held = groupIn (a .sites) (a .generators) (now (a .orders)) (now (a .targets)) in
     let o = sectorOutcome held (a .n) (now (a .word)) (now (a .modes)) (length (now (a .counter))) in
-    let e = c .before .before .before .before .before .before .before .canonicalize-in-sector .ensures .0 ∙ ap (λ (g : Group). onAnswer sizeOf (sectorOutcome g (a .n) (now (a .word)) (now (a .modes)) (length (now (a .counter))))) same in (
+    let e = c .before .before .before .before .before .before .before .before .canonicalize-in-sector .ensures .0 ∙ ap (λ (g : Group). onAnswer sizeOf (sectorOutcome g (a .n) (now (a .word)) (now (a .modes)) (length (now (a .counter))))) same in (
       c .sector .ensures .0 ∙ number-told sizeOf o e,
       (
-        c .before .before .before .before .before .before .before .canonicalize-in-sector .ensures .1 .0 ∙ ap (λ (g : Group). orElse rowWord noWord (sectorOutcome g (a .n) (now (a .word)) (now (a .modes)) (length (now (a .counter))))) same,
+        c .before .before .before .before .before .before .before .before .canonicalize-in-sector .ensures .1 .0 ∙ ap (λ (g : Group). orElse rowWord noWord (sectorOutcome g (a .n) (now (a .word)) (now (a .modes)) (length (now (a .counter))))) same,
         (
-          c .before .before .before .before .before .before .before .canonicalize-in-sector .ensures .1 .1 ∙ ap (λ (g : Group). orElse (rowCounter (generatorsOf g) (now (a .counter))) (now (a .counter)) (sectorOutcome g (a .n) (now (a .word)) (now (a .modes)) (length (now (a .counter))))) same,
+          c .before .before .before .before .before .before .before .before .canonicalize-in-sector .ensures .1 .1 ∙ ap (λ (g : Group). orElse (rowCounter (generatorsOf g) (now (a .counter))) (now (a .counter)) (sectorOutcome g (a .n) (now (a .word)) (now (a .modes)) (length (now (a .counter))))) same,
           (
             c .sector .ensures .1 .0 ∙ else-told sizeOf o e sizeIn 0 ∙ size-row o,
             (
               c .sector .ensures .1 .1 .0 ∙ else-told sizeOf o e isKept false ∙ kept-row o,
-              c .sector .ensures .1 .1 .1 ∙ values-told sizeOf o e,
+              (
+                c .sector .ensures .1 .1 .1 .0 ∙ else-told sizeOf o e dropIndex 0 ∙ drop-row o,
+                c .sector .ensures .1 .1 .1 .1 ∙ values-told sizeOf o e,
+              ),
             ),
           ),
         ),

@@ -13,7 +13,8 @@ use Rattle.group.specs.Value.{generatorsOf}
 use Rattle.orbit.specs.Calls.{noWord}
 use Rattle.group.proofs.Accepted.{accepted-tables}
 use Rattle.group.proofs.Outcomes.{overwritten}
-use Rattle.momentum.specs.Calls.{outcomeOfSector, sizeOf, rowWord, rowCounter, decision, kept, sectorOutcome}
+use Rattle.momentum.specs.Calls.{outcomeOfSector, sizeOf, rowWord, rowCounter, decision, kept, dropped, sectorOutcome}
+use Rattle.momentum.specs.Parts.{indexIn}
 use Rattle.momentum.proofs.Outcomes.{sector-decision}
 use Rattle.momentum.proofs.calls.decided.Statement.{statement}
 use Rattle.momentum.proofs.calls.decided.Tie as tie
@@ -33,6 +34,9 @@ enum-known-answer c = search needs
 enum-told : tie.Need-enum-told
 enum-told c = search needs
 
+index-requires : tie.Need-index-requires
+index-requires c κs = search needs
+
 no-row-requires : tie.Need-no-row-requires
 no-row-requires c κs = search needs
 
@@ -48,13 +52,15 @@ decides c =
 
 returns : tie.Need-returns
 returns c =
-    let t = c .before in
+    let t = c .before .before in
     let s = t .before .before .before .before .before in
     let a = s .args in
     let counter = now (a .counter) in
     let gs = generatorsOf (a .group) in
-    let e = decides s ∙ ap answer (placed-dropped _ (sym (t .before .before .placement-of .ensures .0) ∙ t .enum-told .given .1)) in (
-      ap outcomeOfSector (c .no-row .ensures .0) ∙ sym (ap (onAnswer sizeOf) e),
+    let told = t .enum-told .given .1 in
+    let e = decides s ∙ ap answer (placed-dropped _ (sym (t .before .before .placement-of .ensures .0) ∙ told)) in
+    let index = c .before .index .ensures ∙ ap indexIn told in (
+      ap outcomeOfSector (c .no-row .ensures .0) ∙ ap (λ (i : ℕ). answer (dropped i)) index ∙ sym (ap (onAnswer sizeOf) e),
       (c .no-row .ensures .1 ∙ sym (ap (orElse rowWord noWord) e), sym (ap (orElse (rowCounter gs counter) counter) e)),
     )
 
@@ -100,6 +106,7 @@ decided-spec =
     placement-of-requires
     enum-known-answer
     enum-told
+    index-requires
     no-row-requires
     returns
     slice-aggregate-fill-counter

@@ -16,7 +16,6 @@ use Rattle.elements.proofs.LeastSoFar.{leastSoFar, lead-start, place-start, lea
 use Rattle.momentum.proofs.Traversals.{Passed, passed-start, passed-few, passed-moves, passed-fixes, placed-kept, word-kept, placed-broken, word-broken, fixing-some}
 use Rattle.momentum.proofs.stabilizer.canonicalize_with_stabilizer.Statement.{statement}
 use Rattle.momentum.proofs.stabilizer.canonicalize_with_stabilizer.Tie as tie
-use Rattle.momentum.specs.Calls.{dropped}
 
 abbrev Inv-loop : tie.InvT-loop
 Inv-loop targets orders generators sites order modulus modes word words masked strides rests masks here₀ best₀ index₀ fixing₀ i₀ here best index fixing i =
@@ -100,8 +99,10 @@ returns c =
     let gs = generatorsIn (s .args .generators) (s .args .sites) (now (s .args .targets)) (now (s .args .orders)) in
     let w = lettersIn (s .args .sites) (now (s .args .word)) in
     let inside : l .i < orderOf gs = omega (arith, s .pre .1 .0, c .before .before .before .before .before .loop-test .taken) in
-    let breaks = sym (c .before .before .before .tested .ensures) ∙ c .before .enum-told .given .1 in
-    (c .dropped .ensures .0 ∙ placed-broken gs ks w (l .i) inside breaks, c .dropped .ensures .1 ∙ word-broken gs ks w (l .i) inside breaks)
+    let breaks = sym (c .before .before .before .tested .ensures) ∙ c .before .enum-told .given .1 in (
+      c .dropped .ensures .0 ∙ placed-broken gs ks w (l .i) (l .inv .4) inside breaks,
+      c .dropped .ensures .1 ∙ word-broken gs ks w (l .i) (l .inv .4) inside breaks,
+    )
 
 enum-told-2 : tie.Need-enum-told-2 Inv-loop μ-loop
 enum-told-2 c = search needs

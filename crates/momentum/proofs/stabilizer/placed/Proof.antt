@@ -7,7 +7,7 @@ use Rattle.pauli_word.proofs.Words.{decode-length}
 use Rattle.action.specs.Orbit.{fixing}
 use Rattle.elements.specs.HeldGroup.{generatorsIn}
 use Rattle.rotation.proofs.XPlane.{one-keeps, one-size}
-use Rattle.momentum.proofs.Placing.{keeps-placed, keeps-word, drops-placed, drops-word}
+use Rattle.momentum.proofs.Placing.{keeps-placed, keeps-word, drops-placed, drops-word, step-drops}
 use borrow.Author.Needs.{needs}
 use Rattle.momentum.proofs.stabilizer.placed.Statement.{statement}
 use Rattle.momentum.proofs.stabilizer.placed.Tie as tie
@@ -64,8 +64,8 @@ returns-3 c =
     let w = lettersIn (s .args .sites) (now (s .args .word)) in
     let ks = now (s .args .modes) in
     let says = rw (c .before .before .before .before .fixing .given .1) at (found .1 .1) in
-    let keeps = says .0 ks ∙ sym (c .before .before .trivial .ensures) ∙ c .before .if1 .taken in (
-      c .kept2 .ensures .0 ∙ keeps-placed gs ks w keeps (found .1 .0) (sym (says .1)),
+    let keeps = says .kept ks ∙ sym (c .before .before .trivial .ensures) ∙ c .before .if1 .taken in (
+      c .kept2 .ensures .0 ∙ keeps-placed gs ks w keeps (found .1 .0) (sym (says .size)),
       c .kept2 .ensures .1 ∙ found .0 ∙ keeps-word gs ks w keeps,
     )
 
@@ -77,8 +77,9 @@ returns-4 c =
     let w = lettersIn (s .args .sites) (now (s .args .word)) in
     let ks = now (s .args .modes) in
     let says = rw (c .before .before .before .before .fixing .given .1) at (found .1 .1) in
-    let drops = says .0 ks ∙ sym (c .before .before .trivial .ensures) ∙ c .before .if1 .left in
-    (c .dropped .ensures .0 ∙ drops-placed gs ks w drops, c .dropped .ensures .1 ∙ drops-word gs ks w drops)
+    let phased = sym (c .before .before .trivial .ensures) ∙ c .before .if1 .left in
+    let drops = says .kept ks ∙ phased in
+    (c .dropped .ensures .0 ∙ drops-placed gs ks w drops (step-drops gs ks w says phased), c .dropped .ensures .1 ∙ drops-word gs ks w drops)
 
 pub placed-spec : {M : Type 1} → statement M
 placed-spec =

@@ -35,8 +35,21 @@ canonicalize-block-cyclic-requires c κs =
 returns : tie.Need-returns
 returns c =
     let e = c .before .canonicalize-block-cyclic .ensures in
+    let s = c .before .before .before .before .before .before .before .before .before .before .before .before in
     let one = c .before .before .before .before .before .before .if1 .taken in
-    rw one (e .0, (e .1 .0, (e .1 .1 .1 .1 .1, e .1 .1 .1 .1 .0)))
+    let whole = eqb-true (s .args .order) (1 + getD (now (s .args .rests)) 0 0) (c .before .before .if3 .taken) in
+    let inside = rw one at (s .pre .1 .1 .1) in
+    rw one (
+      e .0,
+      (
+        e .1 .0,
+        record {
+          multiples = λ i h. e .1 .1 .1 .0 i (omega (arith, h, whole, inside));
+          kept = e .1 .1 .1 .1 .1;
+          size = e .1 .1 .1 .1 .0;
+        },
+      ),
+    )
 
 least-by-masks-requires : tie.Need-least-by-masks-requires
 least-by-masks-requires c κs = search needs

@@ -18,11 +18,11 @@ use Rattle.group.specs.Value.{generatorsOf}
 use Rattle.group.proofs.Accepted.{accepted-tables}
 use Rattle.momentum.specs.declared.inner.Placement.the-variants as Placement
 use Rattle.momentum.specs.Calls.{decision, rowWord}
-use Rattle.momentum.specs.Parts.{placementOf}
+use Rattle.momentum.specs.Parts.{placementOf, indexIn}
 use Rattle.text.specs.Text.{decimal, maxWritten}
 use Rattle.sheet_rows.specs.Rows.{missing, oneText, rest, numbersRoom}
 use Rattle.sheet_lines.specs.Lines.{zeroText}
-use Rattle.sheet_rows.proofs.Rows.{Writes, writes-length, writes-then, text-writes, writes-as, dropped-short, kept-short, spelled-length, not-refused, weighed, weight-few, read-accepted, read-word, row-dropped, row-kept, kept-word, kept-small}
+use Rattle.sheet_rows.proofs.Rows.{Writes, writes-length, writes-then, text-writes, writes-as, dropped-short, kept-short, spelled-length, not-refused, weighed, weight-few, read-accepted, read-word, row-dropped, dropped-small, row-kept, kept-word, kept-small}
 use Rattle.sheet_rows.proofs.row.word_row.Statement.{statement}
 use Rattle.sheet_rows.proofs.row.word_row.Tie as tie
 
@@ -103,6 +103,22 @@ placed c =
     let e = letters (reading (weighing (appending c))) in
     ap (λ (w : Word). placementOf (decision (gs s) (now (s .args .modes)) w)) (sym e) ∙ sym (c .placement-of .ensures .0)
 
+-- where a dropped word stands: by an index that is small
+abbrev dropping : tie.After-index → tie.After-placement-of
+dropping c = c .before .before .before .before
+
+drop-found :
+    (c : tie.After-index) → let s = begin (dropping c) in
+    placementOf (decision (gs s) (now (s .args .modes)) (readText (text s))) ≡ Placement.Dropped (c .index .result)
+drop-found c =
+    let told = c .before .before .enum-told2 .given .1 in
+    placed (dropping c) ∙ told ∙ ap (λ (i : ℕ). Placement.Dropped i) (sym (c .index .ensures ∙ ap indexIn told))
+
+drop-small : (c : tie.After-index) → c .index .result < maxWritten
+drop-small c =
+    let s = begin (dropping c) in
+    dropped-small (gs s) (now (s .args .modes)) (text s) (s .pre .1 .1 .0 .0) (drop-found c) (sound s .1)
+
 -- where a kept word stands: its index and size are small, and its least word is accepted
 module _ (c : tie.After-answer) where
   abbrev p : tie.After-placement-of
@@ -169,26 +185,30 @@ enum-known-answer c = search needs
 enum-told-2 : tie.Need-enum-told-2
 enum-told-2 c = search needs
 
+index-requires : tie.Need-index-requires
+index-requires c κs = search needs
+
 dropped-row-requires : tie.Need-dropped-row-requires
 dropped-row-requires c κs =
-    let x = appending (c .before .before .before) in
-    (weight-below (weighing x), omega (arith, written x .1))
+    let x = appending (dropping c) in
+    (drop-small c, weight-below (weighing x), omega (arith, written x .1))
 
 same-length : tie.Need-same-length
 same-length c = search needs
 
 returns-2 : tie.Need-returns-2
 returns-2 c =
-    let y = c .before .before .before .before .before .before in
-    let x = appending y in
-    let s = begin y in
+    let d = c .before .before .before in
+    let x = appending (dropping d) in
+    let s = begin (dropping d) in
+    let i = d .index .result in
     let k = weighing x .weight2 .given .0 .0 in
     let first = written x in
-    let second = text-writes (c .before .before .dropped-row .ensures) (omega (arith, first .1, dropped-short k (weight-below (weighing x)))) in
-    let dropped = placed y ∙ c .before .before .before .before .enum-told2 .given .1 in
+    let short = dropped-short i k (drop-small d) (weight-below (weighing x)) in
+    let second = text-writes (c .before .before .dropped-row .ensures) (omega (arith, first .1, short)) in
     writes-as (writes-then (first .0) second)
-    (ap (λ (j : ℕ). text s ++ rest (missing ∷ missing ∷ missing ∷ decimal j ∷ zeroText ∷ [])) (weight-is (weighing x))
-    ∙ sym (row-dropped (gs s) (now (s .args .modes)) (text s) (s .pre .1 .1 .0 .0) dropped))
+    (ap (λ (j : ℕ). text s ++ rest (missing ∷ decimal i ∷ missing ∷ decimal j ∷ zeroText ∷ [])) (weight-is (weighing x))
+    ∙ sym (row-dropped (gs s) (now (s .args .modes)) (text s) (s .pre .1 .1 .0 .0) (drop-found d)))
 
 kept-row-requires : tie.Need-kept-row-requires
 kept-row-requires c κs =
@@ -230,6 +250,7 @@ word-row-spec =
     placement-of-requires
     enum-known-answer
     enum-told-2
+    index-requires
     dropped-row-requires
     same-length
     returns-2
