@@ -36,6 +36,7 @@ use Rattle.momentum.proofs.Decided.{kept-by, decides, decided-pairs, de
 use Rattle.momentum.proofs.CountPairs.{count-pairs, count-both, total-select}
 use Rattle.momentum.proofs.Words.{sameNumbers-encode}
 use Rattle.momentum.proofs.Modes.{modes-length}
+use Rattle.momentum.proofs.Placing.{decision-drops}
 use Rattle.momentum.proofs.Outcomes.{sector-decision}
 use Rattle.momentum.proofs.GivenGroups.{given-accepted, given-valid, given-length, given-sites}
 use Rattle.orbit.proofs.WordCalls.{word-call-passes}
@@ -51,10 +52,6 @@ orbit-all gs w u = (
 -- ---- the decision
 
 -- by whether the modes keep the word
-dropped-by : (b : Bool) (r : Row) (i j : ℕ) → answer (cond b (kept r) (dropped i)) ≡ answer (dropped j) → (b ≡ false) × (i ≡ j)
-dropped-by true r i j e = let z : _≡_ {A = ℕ} 0 1 = cc in absurd (omega arith)
-dropped-by false r i j e = (refl, cc)
-
 row-by : (b : Bool) (r s : Row) (i : ℕ) → cond b (kept r) (dropped i) ≡ kept s → r ≡ s
 row-by true r s i e = cc
 row-by false r s i e = let z : _≡_ {A = ℕ} 0 1 = cc in absurd (omega arith)
@@ -89,10 +86,12 @@ module _ (g : Group) where
         kept-keeps = ap isKept sector-answer ∙ kept-by (keeps gs ks w) _ _
 
         pub dropped-drops : (i : ℕ) → (sectorOutcome g n bytes ks k ≡ answer (dropped i)) ↔ Drops gs ks w i
-        unfolding decision
         dropped-drops i = (
-          λ d. drops-exactly gs w ks i .1 (dropped-by (keeps gs ks w) _ (droppedBy gs ks w) i (sym sector-answer ∙ d)),
-          λ h. let (e, same) = drops-exactly gs w ks i .0 h in sector-answer ∙ rw (e, same),
+          λ d.
+              let told : answer (decision gs ks w) ≡ answer (dropped i) = sym sector-answer ∙ d in
+              let same : decision gs ks w ≡ dropped i = cc in
+              decision-drops gs ks w i .0 same,
+          λ h. sector-answer ∙ ap answer (decision-drops gs ks w i .1 h),
         )
 
         -- some index drops it

@@ -2,9 +2,9 @@
 use Prim.Native.Nat.{ℕ, _%_, _<_}
 use native.Mathlib.Nat.{mod-eq-of-lt, mod-self}
 use native.Mathlib.Omega.{arith}
-use mathlib.Core.Path.{_≡_, sym, _∙_, ap}
-use mathlib.Core.Logic.{⊎-elim}
-use mathlib.Core.Bool.{true, false}
+use mathlib.Core.Path.{_≡_, refl, sym, _∙_, ap}
+use mathlib.Core.Logic.{_↔_, ⊎-elim}
+use mathlib.Core.Bool.{Bool, true, false, cond}
 use mathlib.Core.List.{List}
 use lib.IntN.{ℤ}
 use borrow.Author.Tests.{eqb-true}
@@ -13,15 +13,20 @@ use Rattle.pauli_word.specs.Bytes.{bytesOf}
 use Rattle.action.specs.Permutation.{Generator}
 use Rattle.action.specs.Index.{orderOf, digits, inverse}
 use Rattle.action.specs.Orbit.{least, forward, indexBack, fixes, orbitSize}
-use Rattle.action.specs.Sector.{numerator, trivial, keeps, breaks, droppedBy}
-use Rattle.action.proofs.Dropped.{some-breaks, breaks-elim, unbroken-intro, dropped-is}
+use Rattle.action.specs.Sector.{numerator, trivial, keeps, breaks, droppedBy, Drops}
+use Rattle.action.proofs.Dropped.{some-breaks, breaks-elim, unbroken-intro, dropped-is, drops-exactly}
 use Rattle.packed.proofs.Shifts.{below-or-not}
 use Rattle.rotation.proofs.XPlane.{trivial-zero}
 use Rattle.paths.specs.Paths.{ByStep}
 use Rattle.orbit.specs.Calls.{noWord}
 use Rattle.momentum.specs.declared.inner.Placement.the-variants as Placement
-use Rattle.momentum.specs.Calls.{decision, rowWord}
+use Rattle.momentum.specs.Calls.{kept, dropped, Row, decision, rowWord}
 use Rattle.momentum.specs.Parts.{placementOf}
+
+-- by whether the modes keep the word
+dropped-by : (b : Bool) (r : Row) (i j : ℕ) → cond b (kept r) (dropped i) ≡ dropped j → (b ≡ false) × (i ≡ j)
+dropped-by true r i j e = let z : _≡_ {A = ℕ} 0 1 = cc in absurd (omega arith)
+dropped-by false r i j e = (refl, cc)
 
 module _ (gs : List Generator) (ks : List ℤ) (w : Word) where
   -- kept, with the inverse of the index that reaches the least word, and the orbit size
@@ -42,6 +47,14 @@ module _ (gs : List Generator) (ks : List ℤ) (w : Word) where
   pub drops-word : keeps gs ks w ≡ false → noWord ≡ rowWord (decision gs ks w)
   unfolding decision
   drops-word k = rw k
+
+  -- by an index exactly if that index drops the word
+  pub decision-drops : (i : ℕ) → (decision gs ks w ≡ dropped i) ↔ Drops gs ks w i
+  unfolding decision
+  decision-drops i = (
+    λ e. drops-exactly gs w ks i .1 (dropped-by (keeps gs ks w) _ (droppedBy gs ks w) i e),
+    λ h. let (e, same) = drops-exactly gs w ks i .0 h in rw (e, same),
+  )
 
   -- where the multiples of a step fix the word, and the step's numerator is not 0, by the step
   module _ {step : ℕ} (by : ByStep step gs w) where

@@ -31,7 +31,6 @@ use Rattle.action.specs.Permutation.{Generator, Valid}
 use Rattle.action.specs.Index.{orderOf}
 use Rattle.action.specs.Orbit.{least, indexBack, orbitSize, fixing}
 use Rattle.action.specs.Sector.{keeps, droppedBy}
-use Rattle.action.proofs.Dropped.{dropped-breaks}
 use Rattle.action.proofs.Canonical.{least-length, back-below}
 use Rattle.permutation.specs.Limits.{maxOrder}
 use Rattle.momentum.specs.declared.inner.Placement.{Placement}
@@ -48,6 +47,7 @@ use Rattle.sheet_lines.specs.Lines.{zeroText, fields, field, firstPass, letterC
 use Rattle.sheet_lines.specs.Parts.{modeOrZero}
 use Rattle.momentum.specs.Calls.{Row, decision, kept, dropped, rowWord}
 use Rattle.momentum.specs.Parts.{placementOf}
+use Rattle.momentum.proofs.Placing.{decision-drops}
 use Rattle.momentum.proofs.Traversals.{placed-dropped}
 
 -- ---- texts one after the other
@@ -233,10 +233,6 @@ module _ (gs : List Generator) (ks : List ℤ) (text : List ℕ) (alone : letter
   abbrev w : Word
   w = readText text
 
-  -- what goes with a kept word, by its numbers
-  abbrev found : ℕ → ℕ → Row
-  found i size = record { word = least gs w; index = i; size = size }
-
   -- without a least word
   module _ {i : ℕ} (e : placementOf (decision gs ks w) ≡ Placement.Dropped i) where
     pub row-dropped : row gs w ks ≡ text ++ rest (missing ∷ decimal i ∷ missing ∷ decimal (weight w) ∷ zeroText ∷ [])
@@ -247,15 +243,11 @@ module _ (gs : List Generator) (ks : List ℤ) (text : List ℕ) (alone : letter
         ∙ ap (λ (f : List ℕ). f ++ rest (missing ∷ decimal i ∷ missing ∷ decimal (weight w) ∷ zeroText ∷ [])) (spell-readText text alone))
 
     pub dropped-small : orderOf gs ≤ maxOrder → i < maxWritten
-    unfolding decision
-    dropped-small small = go (keeps gs ks w) refl e
-      where
-        go :
-            (b : Bool) → keeps gs ks w ≡ b
-            → placementOf (cond b (kept (found (indexBack gs w) (orbitSize gs w))) (dropped (droppedBy gs ks w))) ≡ Placement.Dropped i
-            → i < maxWritten
-        go true k h = let z : _≡_ {A = ℕ} 0 1 = cc in absurd (omega arith)
-        go false k h = let same : droppedBy gs ks w ≡ i = cc in omega (arith, same, dropped-breaks gs ks w k .0)
+    dropped-small small = omega (arith, decision-drops gs ks w i .0 (placed-dropped (decision gs ks w) e) .inside)
+
+  -- what goes with a kept word, by its numbers
+  abbrev found : ℕ → ℕ → Row
+  found i size = record { word = least gs w; index = i; size = size }
 
   -- with one
   module _ {i size : ℕ} (e : placementOf (decision gs ks w) ≡ Placement.Kept i size) where
