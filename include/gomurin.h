@@ -32,7 +32,8 @@
  *  13 a group order above 1,048,576                29 a letter other than I, X, Y, Z (position)
  *  14 no group value, or no walk value             30 a sheet of more than 65,536 bytes
  *  15 a word of other than 64 bytes                31 a sheet line of another form
- *  16 a word's site count is not the group's
+ *  16 a word's site count is not the group's       32 a phase modulus that does not divide 720
+ *                                                  33 a whole coefficient out of its range (row)
  */
 #ifndef GOMURIN_H
 #define GOMURIN_H
@@ -46,6 +47,7 @@
 #define GOMURIN_MAX_GENERATORS 4
 #define GOMURIN_TARGETS 1024
 #define GOMURIN_MAX_ROWS 4096
+#define GOMURIN_MAX_COEFFICIENT 1048576
 #define GOMURIN_MAX_TABLE 262208
 #define GOMURIN_VALUES 4
 
@@ -179,6 +181,19 @@ size_t gomurin_canonicalize_pauli_sum(size_t sites, size_t generators, const uin
                                       const double *coefficients, size_t coefficients_length, uint8_t *representatives,
                                       size_t representatives_length, double *sums, size_t sums_length, uint32_t *counts,
                                       size_t counts_length, size_t *rows, size_t values[GOMURIN_VALUES]);
+
+/* Projects a sum onto the sector of a mode list: rows of GOMURIN_WORD_BYTES bytes and a whole coefficient each, from -GOMURIN_MAX_COEFFICIENT to
+ * GOMURIN_MAX_COEFFICIENT. The three output lists have as many rows; each output row is the representative of a kept orbit, and the sums over the rows
+ * that have it of the coefficient times the cosine, and times the sine, of the row's phase: numerator / M of a turn, with M the phase modulus, for an
+ * index that carries the representative to the row's word. Cosine and sine are in units of 2^-30, each rounded to the nearest whole number; the sums are
+ * exact. Output rows stand in rising order of the words, zero sums stay, and zeros come after the last row. `kept` and `dropped` take how many input
+ * rows have a kept orbit and how many a dropped one. If one is kept there is an output row; after the first, each has a word other than zeros. */
+size_t gomurin_project_pauli_sum(size_t sites, size_t generators, const uint32_t orders[GOMURIN_MAX_GENERATORS],
+                                 const uint32_t targets[GOMURIN_TARGETS], const int32_t *modes, size_t modes_length,
+                                 const uint8_t *words, size_t words_length, const int64_t *coefficients,
+                                 size_t coefficients_length, uint8_t *representatives, size_t representatives_length,
+                                 int64_t *cosines, size_t cosines_length, int64_t *sines, size_t sines_length, size_t *kept,
+                                 size_t *dropped, size_t values[GOMURIN_VALUES]);
 
 /* ---- the sheet */
 

@@ -110,9 +110,14 @@ pub enum Line {
     },
     Clear,
     Row(f64),
+    /// A row with a whole coefficient.
+    Whole(i64),
     Sum,
     /// A sum with lists of these lengths: words, coefficients, representatives, sums and counts.
     SumOf([usize; 5]),
+    Project,
+    /// A projected sum with lists of these lengths: words, coefficients, representatives, cosines and sines.
+    ProjectOf([usize; 5]),
     Sheet {
         places: usize,
         text: Vec<u8>,
@@ -177,8 +182,11 @@ impl Display for Line {
             Line::Clear => write!(f, "clear"),
             Line::Row(coefficient) if coefficient.is_nan() => write!(f, "row nan"),
             Line::Row(coefficient) => write!(f, "row {:016x}", coefficient.to_bits()),
+            Line::Whole(coefficient) => write!(f, "whole {coefficient}"),
             Line::Sum => write!(f, "sum"),
             Line::SumOf(lengths) => write!(f, "sum{}", list(lengths)),
+            Line::Project => write!(f, "project"),
+            Line::ProjectOf(lengths) => write!(f, "project{}", list(lengths)),
             Line::Sheet { places, text } => write!(f, "sheet_in {places} {}", visible(text)),
         }
     }
@@ -206,7 +214,7 @@ pub fn values_named(rule: usize) -> usize {
     match rule {
         4..=7 | 11 => 2,
         10 => 3,
-        8 | 9 | 24 | 25 | 29 => 1,
+        8 | 9 | 24 | 25 | 29 | 33 => 1,
         _ => 0,
     }
 }
@@ -271,7 +279,7 @@ pub fn steps(answers: &[String]) -> String {
     answers.join("; ")
 }
 
-/// The lengths of the lists of a sum of so many rows: words, coefficients, representatives, sums and counts.
+/// The lengths of the lists of a sum of so many rows: words, coefficients, representatives, and the two other lists of its result.
 pub fn sum_lengths(rows: usize) -> [usize; 5] {
     [WORD_BYTES * rows, rows, WORD_BYTES * rows, rows, rows]
 }
@@ -280,4 +288,10 @@ pub fn sum_lengths(rows: usize) -> [usize; 5] {
 pub fn rows(number: usize, rows: impl Iterator<Item = (String, f64, u32)>) -> String {
     let rows: String = rows.map(|(word, sum, count)| format!(" {word} {:016x} {count}", sum.to_bits())).collect();
     format!("{number} rows:{rows}")
+}
+
+/// The rows of a projected sum, with how many input rows are kept and how many dropped: word, and the sums along the cosine and the sine.
+pub fn projected(kept: usize, dropped: usize, rows: impl Iterator<Item = (String, i128, i128)>) -> String {
+    let rows: String = rows.map(|(word, cosine, sine)| format!(" {word} {cosine} {sine}")).collect();
+    format!("{kept} kept, {dropped} dropped:{rows}")
 }

@@ -1,13 +1,13 @@
 //! Short inputs, all of them: every word of up to 4 sites under every lattice of that size and every mode list, every pair of short words, every short
-//! generator list; and the count of pairs that are kept.
+//! generator list; every entry of the table of phases; and the count of pairs that are kept.
 
 use crate::cases::*;
-use crate::groups::identity;
+use crate::groups::{Generators, cycles, identity};
 use crate::guard::Side;
 use crate::ours::Ours;
 use crate::rust::Rust;
 use crate::sizes::*;
-use crate::words::word_bytes;
+use crate::words::{moved, word_bytes};
 
 const MOST_SITES: usize = 4;
 
@@ -58,7 +58,7 @@ pub fn cases() -> Vec<Case> {
     let all_groups = || (0..=MOST_SITES).flat_map(|sites| groups(sites).into_iter().map(move |line| (sites, line)));
     let of_words = all_groups().flat_map(|(sites, line)| texts(sites).into_iter().map(move |text| word_case(&line, text)));
     let of_tables = all_groups().map(|(_, line)| table_case(&line));
-    of_words.chain(of_tables).chain((0..=3).flat_map(compare_cases)).chain(list_cases()).collect()
+    of_words.chain(of_tables).chain([phase_case()]).chain((0..=3).flat_map(compare_cases)).chain(list_cases()).collect()
 }
 
 /// All that is asked of a word under a group, and every mode list.
@@ -68,8 +68,9 @@ fn word_case(line: &Line, text: Vec<u8>) -> Case {
     let mut case = vec![line.clone(), Line::Word(text), Line::Text, Line::Weight];
     case.extend([Line::Canonicalize, Line::WithIndex, Line::WithShift { places }]);
     case.extend([Line::OrbitList { bytes: WORD_BYTES * order }, Line::Orbit, Line::Next(order + 2)]);
+    case.push(Line::Whole(3));
     for modes in mode_lists(&orders) {
-        case.extend([Line::Modes(modes), Line::Sector { places }]);
+        case.extend([Line::Modes(modes), Line::Sector { places }, Line::Project]);
     }
     case
 }
@@ -83,6 +84,22 @@ fn table_case(line: &Line) -> Case {
     for modes in mode_lists(&orders) {
         case.extend([Line::Modes(modes), Line::Table { places: order }]);
         case.extend(lists(&orders).iter().map(|digits| Line::Numerator(digits.iter().map(|&digit| digit as u32).collect())));
+    }
+    case
+}
+
+/// Every entry of the table of phases: the words of an orbit that has as many, each projected alone.
+fn phase_case() -> Case {
+    let permutation = cycles(&[16, 9, 5]);
+    let mut text = vec![b'I'; permutation.len()];
+    for start in [0, 16, 25] {
+        text[start] = b'X';
+    }
+    let group = Generators { sites: text.len(), permutations: vec![permutation.clone()], orders: vec![PHASES as u32] };
+    let mut case = vec![group.line(), Line::Modes(vec![1])];
+    for _ in 0..PHASES {
+        case.extend([Line::Clear, Line::Word(text.clone()), Line::Whole(1), Line::Project]);
+        text = moved(&text, &permutation);
     }
     case
 }

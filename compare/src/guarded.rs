@@ -35,6 +35,7 @@ pub fn cases() -> Vec<Case> {
     cases.extend(walks());
     cases.extend(sectors());
     cases.extend(sums());
+    cases.extend(projections());
     cases.extend(sheets());
     cases
 }
@@ -278,6 +279,9 @@ fn sectors() -> Vec<Case> {
 
 // ---- sums
 
+/// Numbers of rows: few, the most, and one more.
+const ROW_COUNTS: [usize; 6] = [0, 1, 2, 3, MAX_ROWS, MAX_ROWS + 1];
+
 /// The rows of sums: good ones, and rows with a bit above, a coefficient that is not finite, a running sum that is not, in all pairs.
 fn row_lists() -> Vec<Case> {
     let good = |coefficient| vec![Line::Word(TEXT.to_vec()), Line::Row(coefficient)];
@@ -303,7 +307,7 @@ fn row_lists() -> Vec<Case> {
 }
 
 /// The lengths of the five lists of so many rows: as they must be, and each one otherwise.
-fn sums_of_lengths(rows: usize) -> Vec<Line> {
+fn list_lengths(rows: usize) -> Vec<[usize; 5]> {
     let right = sum_lengths(rows);
     let mut all = vec![right];
     for changed in 0..right.len() {
@@ -313,15 +317,59 @@ fn sums_of_lengths(rows: usize) -> Vec<Line> {
             all.push(lengths);
         }
     }
-    all.into_iter().map(Line::SumOf).collect()
+    all
 }
 
 fn sums() -> Vec<Case> {
     let rows = cross(&[vec![Line::Clear]], &row_lists());
-    let lengths: Vec<Line> = [0, 1, 2, 3, MAX_ROWS, MAX_ROWS + 1].into_iter().flat_map(sums_of_lengths).collect();
+    let lengths = ROW_COUNTS.into_iter().flat_map(list_lengths).map(Line::SumOf).collect();
     let of_rows = cross(&cross(&some_group_values(), &rows), &[vec![Line::Sum]]);
     let of_lengths = cross(&cross(&some_group_values(), &rows[..20]), &[lengths]);
     [of_rows, of_lengths].concat()
+}
+
+// ---- projected sums
+
+/// Rows with whole coefficients: good ones, and rows with a bit above, a coefficient out of range, or both, in all pairs.
+fn whole_rows() -> Vec<Case> {
+    let good = |coefficient| vec![Line::Word(TEXT.to_vec()), Line::Whole(coefficient)];
+    let mut above = word_bytes(TEXT);
+    above[PLANE_BYTES] |= 0x80;
+    let above = |coefficient| vec![Line::Bytes { sites: SITES, bytes: above.clone() }, Line::Whole(coefficient)];
+    let kinds = [
+        good(1),
+        good(MAX_COEFFICIENT),
+        good(-MAX_COEFFICIENT),
+        good(MAX_COEFFICIENT + 1),
+        good(-MAX_COEFFICIENT - 1),
+        good(i64::MAX),
+        good(i64::MIN),
+        above(1),
+        above(MAX_COEFFICIENT + 1),
+        vec![Line::Word(b"IIIIII".to_vec()), Line::Whole(-7)],
+    ];
+    let none: Vec<Case> = vec![vec![]];
+    [none, kinds.to_vec(), cross(&kinds, &kinds)].concat()
+}
+
+/// Good and bad group values, and two of a phase modulus that does not divide the entries of a turn, one with as many generators as the base group.
+fn turned_groups() -> Vec<Case> {
+    [some_group_values(), each([Lattice::Chain(7), Lattice::Torus2(7, 1)].map(Line::Lattice))].concat()
+}
+
+/// Every kind of rows under every group value and every mode list, with lists as they must be and with sines a row long; and lists of all lengths.
+fn projections() -> Vec<Case> {
+    let rows = cross(&[vec![Line::Clear]], &whole_rows());
+    let groups = cross(&turned_groups(), &mode_lists());
+    let of_rows = cross(&groups, &rows);
+    let asked = |case: Case| {
+        let mut lengths = sum_lengths(case.iter().filter(|line| matches!(line, Line::Whole(_))).count());
+        lengths[4] += 1;
+        [&case[..], &[Line::Project, Line::ProjectOf(lengths)]].concat()
+    };
+    let lengths = ROW_COUNTS.into_iter().flat_map(list_lengths).map(Line::ProjectOf).collect();
+    let of_lengths = cross(&cross(&groups, &rows[..4]), &[lengths]);
+    [of_rows.into_iter().map(asked).collect(), of_lengths].concat()
 }
 
 // ---- sheets

@@ -11,6 +11,7 @@ mod interface;
 mod orbits;
 mod ours;
 mod parts;
+mod projections;
 mod random;
 mod rust;
 mod sample;

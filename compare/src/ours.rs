@@ -16,6 +16,7 @@ pub struct Ours {
     walk: Walk,
     words: Vec<u8>,
     coefficients: Vec<f64>,
+    wholes: Vec<i64>,
 }
 
 struct Walk {
@@ -43,6 +44,7 @@ impl Ours {
             walk: Walk { group: Group::EMPTY, at: vec![0; WORD_BYTES], index: 0 },
             words: Vec::new(),
             coefficients: Vec::new(),
+            wholes: Vec::new(),
         }
     }
 
@@ -84,10 +86,13 @@ impl Ours {
             Line::Numerator(digits) => self.character_numerator(digits),
             Line::Table { places } => self.character_table(*places),
             Line::Sector { places } => self.canonicalize_in_sector(*places),
-            Line::Clear => set(|| (self.words, self.coefficients) = (Vec::new(), Vec::new())),
-            Line::Row(coefficient) => set(|| self.row(*coefficient)),
+            Line::Clear => set(|| (self.words, self.coefficients, self.wholes) = (Vec::new(), Vec::new(), Vec::new())),
+            Line::Row(coefficient) => set(|| self.row(*coefficient, 0)),
+            Line::Whole(coefficient) => set(|| self.row(0.0, *coefficient)),
             Line::Sum => self.canonicalize_pauli_sum(sum_lengths(self.coefficients.len())),
             Line::SumOf(lengths) => self.canonicalize_pauli_sum(*lengths),
+            Line::Project => self.project_pauli_sum(sum_lengths(self.wholes.len())),
+            Line::ProjectOf(lengths) => self.project_pauli_sum(*lengths),
             Line::Sheet { places, text } => self.sheet(*places, text),
         }
     }
@@ -303,11 +308,12 @@ impl Ours {
 
     // ---- sums
 
-    fn row(&mut self, coefficient: f64) {
+    fn row(&mut self, coefficient: f64, whole: i64) {
         let mut word = self.word.clone();
         word.resize(WORD_BYTES, 0);
         self.words.extend(word);
         self.coefficients.push(coefficient);
+        self.wholes.push(whole);
     }
 
     /// The lengths are those of the words, coefficients, representatives, sums and counts.
@@ -354,6 +360,53 @@ impl Ours {
         let after = [zeros(part(representatives, WORD_BYTES * number)), zeros(part(sums, number)), zeros(part(counts, number))];
         said(rule, values, &[], String::new)
             + &rows(number, all.take(number))
+            + if after == [true; 3] { "" } else { " and more after them" }
+    }
+
+    /// The lengths are those of the words, coefficients, representatives, cosines and sines.
+    fn project_pauli_sum(&mut self, lengths: [usize; 5]) -> String {
+        let (mut words, mut wholes) = (self.words.clone(), self.wholes.clone());
+        words.resize(lengths[0], 0);
+        wholes.resize(lengths[1], 0);
+        let m = &mut self.memory;
+        let (group, modes) = (lend_group(m, &self.group), m.lend(&self.modes));
+        let (words, coefficients) = (m.lend(&words), m.lend(&wholes));
+        let (representatives, cosines, sines) = (m.room::<u8>(lengths[2]), m.room::<i64>(lengths[3]), m.room::<i64>(lengths[4]));
+        let (kept, dropped, values) = (m.room::<usize>(1), m.room::<usize>(1), m.room(VALUES));
+        let rule = call_of_group!(
+            gomurin_project_pauli_sum,
+            group,
+            modes.at,
+            modes.length,
+            words.at,
+            words.length,
+            coefficients.at,
+            coefficients.length,
+            representatives.at,
+            representatives.length,
+            cosines.at,
+            cosines.length,
+            sines.at,
+            sines.length,
+            kept.at,
+            dropped.at,
+            values.at
+        );
+        if rule != 0 {
+            let stayed = filled(representatives) && filled(cosines) && filled(sines);
+            let named = values_named(rule) + usize::from(rule == 17);
+            let refused = said_of(rule, values, named, &[zeros(kept), zeros(dropped)], String::new);
+            return refused + if stayed { ", as they were" } else { ", changed" };
+        }
+        // The table ends where the words are zeros, but for its first.
+        let later = representatives.get().chunks(WORD_BYTES).skip(1).take_while(|word| word.iter().any(|&byte| byte != 0));
+        let number = if kept.first() == 0 { 0 } else { 1 + later.count() };
+        let words = representatives.get().chunks(WORD_BYTES).map(|word| letters(self.group.sites, word));
+        let parts = cosines.get().iter().zip(sines.get());
+        let table = words.zip(parts).take(number).map(|(word, (&cosine, &sine))| (word, i128::from(cosine), i128::from(sine)));
+        let after = [zeros(part(representatives, WORD_BYTES * number)), zeros(part(cosines, number)), zeros(part(sines, number))];
+        said(rule, values, &[], String::new)
+            + &projected(kept.first(), dropped.first(), table)
             + if after == [true; 3] { "" } else { " and more after them" }
     }
 

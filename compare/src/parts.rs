@@ -6,7 +6,7 @@ use crate::guard::{self, Side};
 use crate::ours::Ours;
 use crate::random::Random;
 use crate::rust::Rust;
-use crate::{example, exhaustive, groups, guarded, orbits, sectors, sums, words};
+use crate::{example, exhaustive, groups, guarded, orbits, projections, sectors, sums, words};
 use std::time::Instant;
 
 struct Part {
@@ -54,6 +54,7 @@ fn parts(seed: u64, count: usize) -> Vec<Part> {
         random("orbits", 2_500, Bounds::common, orbits::case),
         random("sectors", 2_000, Bounds::common, sectors::case),
         random("sums", 500, Bounds::common, sums::case),
+        random("projections", 500, Bounds::common, projections::case),
         random("forged", 500, Bounds::common, guarded::forged_case),
         random("large", 2, |_| Bounds::ALL, orbits::large_case),
         listed("exhaustive", exhaustive::cases()),

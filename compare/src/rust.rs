@@ -2,6 +2,7 @@
 
 use crate::cases::*;
 use crate::guard::FILL;
+use crate::projections;
 use crate::sheet;
 use crate::sizes::*;
 use ppvm_pauli_sum::symmetry::group::{GroupError, TranslationGroup};
@@ -22,7 +23,15 @@ pub struct Rust {
     word: Vec<u8>,
     modes: Vec<i32>,
     walk: Walk,
-    rows: Vec<(Vec<u8>, f64)>,
+    rows: Vec<Row>,
+}
+
+/// A row of a sum: a word with a coefficient as a float and one as a whole number; one of the two is 0.
+#[derive(Clone)]
+pub struct Row {
+    pub word: Vec<u8>,
+    pub coefficient: f64,
+    pub whole: i64,
 }
 
 /// A group value, and the Rust's group where accepted generators give that value.
@@ -80,9 +89,12 @@ impl Rust {
             Line::Table { places } => self.character_table(*places),
             Line::Sector { places } => self.canonicalize_in_sector(*places),
             Line::Clear => set(|| self.rows.clear()),
-            Line::Row(coefficient) => set(|| self.row(*coefficient)),
+            Line::Row(coefficient) => set(|| self.row(*coefficient, 0)),
+            Line::Whole(coefficient) => set(|| self.row(0.0, *coefficient)),
             Line::Sum => self.canonicalize_pauli_sum(sum_lengths(self.rows.len())),
             Line::SumOf(lengths) => self.canonicalize_pauli_sum(*lengths),
+            Line::Project => self.project_pauli_sum(sum_lengths(self.rows.len())),
+            Line::ProjectOf(lengths) => self.project_pauli_sum(*lengths),
             Line::Sheet { places, text } => sheet::answer(*places, text),
         }
     }
@@ -248,10 +260,10 @@ impl Rust {
 
     // ---- sums
 
-    fn row(&mut self, coefficient: f64) {
+    fn row(&mut self, coefficient: f64, whole: i64) {
         let mut word = self.word.clone();
         word.resize(WORD_BYTES, 0);
-        self.rows.push((word, coefficient));
+        self.rows.push(Row { word, coefficient, whole });
     }
 
     fn canonicalize_pauli_sum(&self, lengths: [usize; 5]) -> String {
@@ -267,19 +279,46 @@ impl Rust {
         let rows = coefficients;
         check(22, [words, coefficients, representatives, sums, counts] != sum_lengths(rows))?;
         check(23, rows > MAX_ROWS)?;
-        let mut taken = self.rows.clone();
-        taken.resize(rows, (vec![0; WORD_BYTES], 0.0));
-        for (i, (bytes, coefficient)) in taken.iter().enumerate() {
-            check_row(17, i, has_bit_above(group.n_qubits(), bytes))?;
-            check_row(24, i, !coefficient.is_finite())?;
+        let taken = self.taken(rows);
+        for (i, row) in taken.iter().enumerate() {
+            check_row(17, i, has_bit_above(group.n_qubits(), &row.word))?;
+            check_row(24, i, !row.coefficient.is_finite())?;
         }
-        let mut basis: Vec<Word> = taken.iter().map(|(bytes, _)| word(group.n_qubits(), bytes)).collect();
-        let mut coefficients: Vec<f64> = taken.iter().map(|row| row.1).collect();
+        let mut basis: Vec<Word> = taken.iter().map(|row| word(group.n_qubits(), &row.word)).collect();
+        let mut coefficients: Vec<f64> = taken.iter().map(|row| row.coefficient).collect();
         let counts = count_rows(group, &basis, &coefficients)?;
         merge::canonicalize_pauli_sum(&mut basis, &mut coefficients, group);
         let mut folded: Vec<(Word, f64)> = basis.into_iter().zip(coefficients).collect();
         folded.sort_by_key(|row| row.0);
         Ok(crate::cases::rows(folded.len(), folded.iter().map(|(word, sum)| (text(word), *sum, counts[word]))))
+    }
+
+    /// The first rows, and rows of zeros where there are not as many.
+    fn taken(&self, rows: usize) -> Vec<Row> {
+        let mut taken = self.rows.clone();
+        taken.resize(rows, Row { word: vec![0; WORD_BYTES], coefficient: 0.0, whole: 0 });
+        taken
+    }
+
+    fn project_pauli_sum(&self, lengths: [usize; 5]) -> String {
+        self.project(lengths).unwrap_or_else(|refusal| format!("{refusal}, as they were"))
+    }
+
+    /// The lengths are those of the words, coefficients, representatives, cosines and sines.
+    fn project(&self, lengths: [usize; 5]) -> Answer {
+        let group = self.group.check()?;
+        let rows = lengths[1];
+        check(18, self.modes.len() != group.n_generators())?;
+        check(32, !PHASES.is_multiple_of(inner::phase_modulus(group)))?;
+        check(22, lengths != sum_lengths(rows))?;
+        check(23, rows > MAX_ROWS)?;
+        let taken = self.taken(rows);
+        for (i, row) in taken.iter().enumerate() {
+            check_row(17, i, has_bit_above(group.n_qubits(), &row.word))?;
+            check_row(33, i, !(-MAX_COEFFICIENT..=MAX_COEFFICIENT).contains(&row.whole))?;
+        }
+        let (kept, sums) = projections::project(group, &self.modes, &taken);
+        Ok(projected(kept, rows - kept, sums.iter().map(|(word, [cosine, sine])| (text(word), *cosine, *sine))))
     }
 }
 

@@ -14,6 +14,10 @@ pub const TARGETS: usize = MAX_GENERATORS * MAX_SITES;
 pub const MAX_ORDER: usize = 1 << 20;
 /// Rows of a sum, at most.
 pub const MAX_ROWS: usize = 4096;
+/// The largest whole coefficient of a sum, and less its sign the least.
+pub const MAX_COEFFICIENT: i64 = 1 << 20;
+/// Entries of the table of phases: a turn has so many steps.
+pub const PHASES: usize = 720;
 /// Bytes of a sheet, at most.
 pub const MAX_SHEET: usize = 65_536;
 /// Bytes that suffice for the table of any sheet.

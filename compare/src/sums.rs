@@ -23,14 +23,8 @@ pub fn case(random: &mut Random, bounds: Bounds) -> Case {
 }
 
 /// A word of one of some orbits.
-fn moved(random: &mut Random, orbits: &[Vec<u8>], group: &ppvm_pauli_sum::symmetry::group::TranslationGroup) -> Vec<u8> {
-    let word = random.pick(orbits);
-    let element = groups::element(group, random.below(group.order()));
-    let mut result = word.clone();
-    for (q, &letter) in word.iter().enumerate() {
-        result[element[q] as usize] = letter;
-    }
-    result
+pub fn moved(random: &mut Random, orbits: &[Vec<u8>], group: &ppvm_pauli_sum::symmetry::group::TranslationGroup) -> Vec<u8> {
+    words::moved(&random.pick(orbits), &groups::element(group, random.below(group.order())))
 }
 
 /// A finite coefficient: whole numbers that cancel, zeros of both signs, subnormal ones, and any whose sums stay finite.

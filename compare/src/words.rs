@@ -41,6 +41,15 @@ fn make_fixed(word: &mut [u8], permutation: &[u32]) {
     }
 }
 
+/// A word moved by a permutation: the letter of site q goes to the target of q.
+pub fn moved(word: &[u8], permutation: &[u32]) -> Vec<u8> {
+    let mut result = word.to_vec();
+    for (&target, &letter) in permutation.iter().zip(word) {
+        result[target as usize] = letter;
+    }
+    result
+}
+
 /// A text with some letters changed.
 fn neighbour(random: &mut Random, text: &[u8]) -> Vec<u8> {
     let mut other = text.to_vec();

@@ -1,6 +1,7 @@
 -- The laws of the definitions, each file above those that it uses. `Theorems` states what is proved, and is the one to read.
 pub mod Arithmetic
 pub mod Lists
+pub mod Below
 pub mod Support
 pub mod ExactOrders
 pub mod Move

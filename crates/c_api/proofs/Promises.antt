@@ -26,8 +26,9 @@ use Rattle.group.specs.Value.{generatorsOf, isGroup}
 use Rattle.group.proofs.Accepted.{accepted-by, accepted-tables}
 use Rattle.orbit.specs.Calls.{isWalk, noWord, noWalk, nextOutcome, entry, finished}
 use Rattle.momentum.specs.Calls.{kept, dropped}
+use Rattle.project.specs.Calls.{ProjectedSum, countsOf}
 use Rattle.sheet_text.specs.Sheet.{Page, tablePage, refusalPage}
-use Rattle.c_api.specs.Told.{placed, numberOf, valuesOf, walkIn, signOf, indexOfEntry, isFinished, sizeIn, isKept, dropIndex, pageNumber, pageValues, pageLength}
+use Rattle.c_api.specs.Told.{placed, numberOf, valuesOf, walkIn, signOf, indexOfEntry, isFinished, sizeIn, isKept, dropIndex, keptIn, droppedIn, rowsKept, rowsDropped, pageNumber, pageValues, pageLength}
 
 -- ---- 1 0 is returned for an answer alone: no rule has the number 0
 
@@ -64,6 +65,8 @@ rule-positive Refusal.TooManyLetters = omega arith
 rule-positive (Refusal.NotALetter a) = omega arith
 rule-positive Refusal.SheetLength = omega arith
 rule-positive Refusal.LineForm = omega arith
+rule-positive Refusal.PhaseModulus = omega arith
+rule-positive (Refusal.CoefficientRange a) = omega arith
 
 pub zero-number : (n : Number) → numberOf (outcomeOfNumber n) ≡ 0 → answers (outcomeOfNumber n) ≡ true
 zero-number (Number.Value k) e = refl
@@ -108,6 +111,8 @@ values-whole Refusal.TooManyLetters line = refl
 values-whole (Refusal.NotALetter a) line = refl
 values-whole Refusal.SheetLength line = refl
 values-whole Refusal.LineForm line = refl
+values-whole Refusal.PhaseModulus line = refl
+values-whole (Refusal.CoefficientRange a) line = refl
 
 -- ---- 3 A refused beginning of a walk
 
@@ -154,6 +159,13 @@ pub decisions :
     × (map (isKept {A = ℕ}) (kept 4 ∷ dropped 2 ∷ []) ≡ true ∷ false ∷ [])
     × (map (dropIndex {A = ℕ}) (kept 4 ∷ dropped 2 ∷ []) ≡ 0 ∷ 2 ∷ [])
 decisions = (refl, refl, refl)
+
+pub projections : (keptIn (3, 2) ≡ 3) × (droppedIn (3, 2) ≡ 2)
+projections = (refl, refl)
+
+pub projected-rows :
+    (s : ProjectedSum) → (rowsKept s ≡ keptIn (countsOf s)) × (rowsDropped s ≡ droppedIn (countsOf s))
+projected-rows s = (refl, refl)
 
 -- a sheet refused by 29 at line 4, at letter 2, its line of 13 bytes; a table of 84 bytes; a list too short
 abbrev pages : List (Outcome Page)

@@ -11,6 +11,7 @@ use Rattle.group.specs.declared.Group.{Group}
 use Rattle.orbit.specs.declared.Walk.{Walk}
 use Rattle.orbit.specs.Calls.{Entry, entry, finished}
 use Rattle.momentum.specs.Calls.{Decision, kept, dropped, Row}
+use Rattle.project.specs.Calls.{ProjectedSum}
 use Rattle.sheet_text.specs.Sheet.{Page, tablePage, refusalPage}
 
 -- what a rule names, in four places, zeros after it
@@ -71,6 +72,21 @@ isKept (dropped i) = false
 abbrev pub dropIndex : {A : Type 0} → Decision A → ℕ
 dropIndex (kept a) = 0
 dropIndex (dropped i) = i
+
+-- ---- projected sums
+
+-- how many rows are kept, and how many dropped
+abbrev pub keptIn : ℕ × ℕ → ℕ
+keptIn rows = rows .0
+
+abbrev pub droppedIn : ℕ × ℕ → ℕ
+droppedIn rows = rows .1
+
+abbrev pub rowsKept : ProjectedSum → ℕ
+rowsKept s = s .kept
+
+abbrev pub rowsDropped : ProjectedSum → ℕ
+rowsDropped s = s .dropped
 
 -- ---- the sheet: a refused sheet is printed too, and is refused by its own rule
 

@@ -5,6 +5,7 @@
 // beside a refusal is what the call that it passes on hands back there, and 0 for a number.
 pub mod groups;
 pub mod orbits;
+pub mod projections;
 pub mod sectors;
 pub mod sheets;
 pub mod sums;

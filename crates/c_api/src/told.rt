@@ -5,7 +5,8 @@ ghost use mathlib.Core.List.{[], _∷_};
 ghost use Rattle.outcome.specs.Outcome.{ruleNumber, ruleValues, outcomeOfNumber, outcomeOfVerdict, orElse, itself};
 ghost use Rattle.orbit.specs.Calls.{outcomeOfStep};
 ghost use Rattle.momentum.specs.Calls.{outcomeOfSector};
-ghost use Rattle.c_api.specs.Told.{placed, numberOf, valuesOf, groupIn, walkIn, indexOfEntry, isFinished, sizeIn, isKept, dropIndex};
+ghost use Rattle.project.specs.Calls.{outcomeOfProjection};
+ghost use Rattle.c_api.specs.Told.{placed, numberOf, valuesOf, groupIn, walkIn, indexOfEntry, isFinished, sizeIn, isKept, dropIndex, keptIn, droppedIn};
 use crate::VALUES;
 use group::Group;
 use group::Made;
@@ -18,6 +19,7 @@ use outcome::Verdict;
 use pauli_word::WORD_BYTES;
 use permutation::MAX_GENERATORS;
 use permutation::TARGET_PLACES;
+use project::Projection;
 
 // The group of four parts.
 pub fn group_in(
@@ -73,6 +75,8 @@ fn rule_values(why: Refusal) -> [usize; VALUES]
         Refusal::NotALetter(a) => [a, 0, 0, 0],
         Refusal::SheetLength => [0, 0, 0, 0],
         Refusal::LineForm => [0, 0, 0, 0],
+        Refusal::PhaseModulus => [0, 0, 0, 0],
+        Refusal::CoefficientRange(a) => [a, 0, 0, 0],
     }
 }
 
@@ -226,5 +230,29 @@ pub fn sector(
             answered(values)
         }
         Sector::Refused(why) => refused(why, values),
+    }
+}
+
+// A projected sum: how many rows are kept, and how many dropped.
+pub fn projection(
+    answer: Projection,
+    kept: &mut usize,
+    dropped: &mut usize,
+    values: &mut [usize; VALUES],
+) -> usize
+    ensures number { λ r. ⌜ r ≡ numberOf (outcomeOfProjection answer) ⌝ }
+    ensures kept { λ _. ⌜ now (kept .exit) ≡ orElse keptIn 0 (outcomeOfProjection answer) ⌝ }
+    ensures dropped { λ _. ⌜ now (dropped .exit) ≡ orElse droppedIn 0 (outcomeOfProjection answer) ⌝ }
+    ensures values { λ _. ⌜ now (values .exit) ≡ valuesOf (outcomeOfProjection answer) ⌝ }
+{
+    *kept = 0;
+    *dropped = 0;
+    match answer {
+        Projection::Rows(inside, outside) => {
+            *kept = inside;
+            *dropped = outside;
+            answered(values)
+        }
+        Projection::Refused(why) => refused(why, values),
     }
 }

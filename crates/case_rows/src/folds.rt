@@ -1,24 +1,12 @@
 // A sum folded: the call in lists of given lengths, and what it comes to.
-use crate::ROW_BYTES;
-use crate::ROW_ROOM;
+use case_text::sizes::ROW_BYTES;
+use case_text::sizes::ROW_ROOM;
+use case_text::sizes::Sizes;
 use group::Group;
 use lines::answers;
 use lines::lists;
 use outcome::Number;
 use pauli_word::WORD_BYTES;
-
-// The lengths of the lists of a call, and the output rows that are printed, from one to before another, with n letters a word. To 0: the rows that
-// there are.
-pub struct Sizes {
-    pub n: usize,
-    pub words: usize,
-    pub rows: usize,
-    pub representatives: usize,
-    pub sums: usize,
-    pub counts: usize,
-    pub from: usize,
-    pub to: usize,
-}
 
 // Folds a sum in the fronts of lists.
 pub fn fold(g: Group, sizes: Sizes, words: &[u8], coefficients: &[f64]) {
@@ -59,8 +47,8 @@ fn fold_in(
     counts: &mut [u32],
 ) {
     let bytes = sizes.representatives;
-    let values = sizes.sums;
-    let numbers = sizes.counts;
+    let values = sizes.first;
+    let numbers = sizes.second;
     if representatives.len() < bytes {
         return lines::byte(b'?');
     }

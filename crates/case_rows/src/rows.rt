@@ -1,5 +1,5 @@
-// The rows of a sum: their words in one list, their coefficients in another.
-use crate::ROW_ROOM;
+// The rows of a sum: their words in one list, their coefficients in two others, as floats and as whole numbers.
+use case_text::sizes::ROW_ROOM;
 use case_text::texts;
 use pauli_word::WORD_BYTES;
 
@@ -7,7 +7,15 @@ use pauli_word::WORD_BYTES;
 const BYTE_VALUES: usize = 256;
 
 // Writes a row.
-fn put(words: &mut [u8], coefficients: &mut [f64], row: usize, word: &[u8], coefficient: f64) {
+fn put(
+    words: &mut [u8],
+    coefficients: &mut [f64],
+    wholes: &mut [i64],
+    row: usize,
+    word: &[u8],
+    coefficient: f64,
+    whole: i64,
+) {
     if ROW_ROOM <= row {
         return;
     }
@@ -19,32 +27,46 @@ fn put(words: &mut [u8], coefficients: &mut [f64], row: usize, word: &[u8], coef
     if coefficients.len() <= row {
         return;
     }
+    if wholes.len() <= row {
+        return;
+    }
     texts::write(word, &mut words[at..end]);
     coefficients[row] = coefficient;
+    wholes[row] = whole;
 }
 
 // Writes equal rows, from one row to before another.
 pub fn fill(
     words: &mut [u8],
     coefficients: &mut [f64],
+    wholes: &mut [i64],
     from: usize,
     to: usize,
     word: &[u8],
     coefficient: f64,
+    whole: i64,
 ) {
     let mut row = from;
     while row < to {
-        put(words, coefficients, row, word, coefficient);
+        put(words, coefficients, wholes, row, word, coefficient, whole);
         row += 1;
     }
 }
 
-// Writes rows 0, 1, ..: the binary digits of the row's number as X, the lowest at site 0, and the number as the coefficient.
-pub fn number(words: &mut [u8], coefficients: &mut [f64], count: usize) {
+// Writes rows 0, 1, ..: the binary digits of the row's number as X, the lowest at site 0, and the number as both coefficients.
+pub fn number(words: &mut [u8], coefficients: &mut [f64], wholes: &mut [i64], count: usize) {
     let mut row = 0;
     while row < count {
         let word = numbered(row);
-        put(words, coefficients, row, &word, float(row));
+        put(
+            words,
+            coefficients,
+            wholes,
+            row,
+            &word,
+            float(row),
+            whole(row),
+        );
         row += 1;
     }
 }
@@ -58,4 +80,8 @@ fn numbered(row: usize) -> [u8; WORD_BYTES] {
 
 fn float(row: usize) -> f64 {
     std::num::nearest_u64_to_f64(row as u64)
+}
+
+fn whole(row: usize) -> i64 {
+    if row < ROW_ROOM { row as i64 } else { 0 }
 }

@@ -1,7 +1,5 @@
 // Sums: their rows put together, and folded.
-use crate::ROW_ROOM;
 use crate::folds;
-use crate::folds::Sizes;
 use crate::rows;
 use case_text::fields;
 use case_text::fields::Args;
@@ -11,10 +9,20 @@ use case_text::hex::Float;
 use case_text::kinds::CLEAR;
 use case_text::kinds::ROW;
 use case_text::kinds::ROWS;
-use case_text::kinds::SUM;
+use case_text::kinds::WHOLE;
+use case_text::kinds::WHOLES;
+use case_text::sizes;
+use case_text::sizes::ROW_ROOM;
 use case_text::texts;
+use case_text::wholes;
+use case_text::wholes::Whole;
 use group::Group;
-use pauli_word::WORD_BYTES;
+
+// The coefficients of a row; one of them is 0.
+enum Pair {
+    Of(f64, i64),
+    Other,
+}
 
 // The lines that change the rows; how many there are then.
 pub fn put(
@@ -25,12 +33,21 @@ pub fn put(
     k: usize,
     words: &mut [u8],
     coefficients: &mut [f64],
+    wholes: &mut [i64],
 ) -> usize {
     match kind {
-        CLEAR => clear(count, words, coefficients),
-        ROW => append(count, word, 1, rest, words, coefficients),
-        ROWS => append_many(count, word, rest, words, coefficients),
-        _ => number(count, k, words, coefficients),
+        CLEAR => clear(count, words, coefficients, wholes),
+        ROW | WHOLE => append(
+            count,
+            word,
+            1,
+            read(kind, texts::after_space(rest)),
+            words,
+            coefficients,
+            wholes,
+        ),
+        ROWS | WHOLES => append_many(count, word, kind, rest, words, coefficients, wholes),
+        _ => number(count, k, words, coefficients, wholes),
     }
 }
 
@@ -44,39 +61,65 @@ fn other(count: usize) -> usize {
     count
 }
 
-fn clear(count: usize, words: &mut [u8], coefficients: &mut [f64]) -> usize {
-    rows::fill(words, coefficients, 0, count, b"", 0.0);
+fn clear(count: usize, words: &mut [u8], coefficients: &mut [f64], wholes: &mut [i64]) -> usize {
+    rows::fill(words, coefficients, wholes, 0, count, b"", 0.0, 0);
     set(0)
 }
 
-// ` K HEX`.
+// The coefficients that a text writes: a whole number, or the bits of a float.
+fn read(kind: usize, text: &[u8]) -> Pair {
+    match kind {
+        WHOLE | WHOLES => read_whole(text),
+        _ => read_float(text),
+    }
+}
+
+fn read_whole(text: &[u8]) -> Pair {
+    match wholes::read(text) {
+        Whole::Value(v) => Pair::Of(0.0, v),
+        Whole::Other => Pair::Other,
+    }
+}
+
+fn read_float(text: &[u8]) -> Pair {
+    match hex::read_float(text) {
+        Float::Value(x) => Pair::Of(x, 0),
+        Float::Other => Pair::Other,
+    }
+}
+
+// ` K C`.
 fn append_many(
     count: usize,
     word: &[u8],
+    kind: usize,
     rest: &[u8],
     words: &mut [u8],
     coefficients: &mut [f64],
+    wholes: &mut [i64],
 ) -> usize {
     if rest.len() == 0 {
         return other(count);
     }
     let end = fields::field_end(rest, 0);
-    match fields::number(fields::field(rest, 0, end)) {
-        Value::Number(k) => append(count, word, k as usize, &rest[end..], words, coefficients),
-        Value::Other => other(count),
-    }
+    let Value::Number(k) = fields::number(fields::field(rest, 0, end)) else {
+        return other(count);
+    };
+    let pair = read(kind, texts::after_space(&rest[end..]));
+    append(count, word, k as usize, pair, words, coefficients, wholes)
 }
 
-// ` HEX`: so many rows more of the word with this coefficient.
+// So many rows more of the word with these coefficients.
 fn append(
     count: usize,
     word: &[u8],
     more: usize,
-    rest: &[u8],
+    pair: Pair,
     words: &mut [u8],
     coefficients: &mut [f64],
+    wholes: &mut [i64],
 ) -> usize {
-    let Float::Value(x) = hex::read_float(texts::after_space(rest)) else {
+    let Pair::Of(x, v) = pair else {
         return other(count);
     };
     if ROW_ROOM < count {
@@ -86,61 +129,27 @@ fn append(
         return other(count);
     }
     let to = count + more;
-    rows::fill(words, coefficients, count, to, word, x);
+    rows::fill(words, coefficients, wholes, count, to, word, x, v);
     set(to)
 }
 
 // The rows are k numbered ones, and no others.
-fn number(count: usize, k: usize, words: &mut [u8], coefficients: &mut [f64]) -> usize {
+fn number(
+    count: usize,
+    k: usize,
+    words: &mut [u8],
+    coefficients: &mut [f64],
+    wholes: &mut [i64],
+) -> usize {
     if ROW_ROOM < k {
         return other(count);
     }
-    rows::fill(words, coefficients, 0, count, b"", 0.0);
-    rows::number(words, coefficients, k);
+    rows::fill(words, coefficients, wholes, 0, count, b"", 0.0, 0);
+    rows::number(words, coefficients, wholes, k);
     set(k)
 }
 
 // The lines that fold the rows.
-pub fn fold(
-    g: Group,
-    n: usize,
-    count: usize,
-    kind: usize,
-    args: Args,
-    words: &[u8],
-    coefficients: &[f64],
-) {
-    folds::fold(g, sizes(n, count, kind, args), words, coefficients);
-}
-
-// The lengths of the lists, and the rows that are printed.
-fn sizes(n: usize, count: usize, kind: usize, args: Args) -> Sizes {
-    let list = args.list;
-    if kind == SUM && args.count == 5 {
-        return Sizes {
-            n,
-            words: list[0],
-            rows: list[1],
-            representatives: list[2],
-            sums: list[3],
-            counts: list[4],
-            from: 0,
-            to: 0,
-        };
-    }
-    let bytes = if count <= ROW_ROOM {
-        WORD_BYTES * count
-    } else {
-        0
-    };
-    Sizes {
-        n,
-        words: bytes,
-        rows: count,
-        representatives: bytes,
-        sums: count,
-        counts: count,
-        from: list[0],
-        to: list[1],
-    }
+pub fn fold(g: Group, n: usize, count: usize, args: Args, words: &[u8], coefficients: &[f64]) {
+    folds::fold(g, sizes::of(n, count, args), words, coefficients);
 }

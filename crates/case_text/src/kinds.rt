@@ -70,18 +70,26 @@ pub const ROW: usize = 32;
 
 pub const ROWS: usize = 33;
 
-pub const NUMBERED: usize = 34;
+pub const WHOLE: usize = 34;
 
-pub const SUM: usize = 35;
+pub const WHOLES: usize = 35;
 
-pub const SUM_AT: usize = 36;
+pub const NUMBERED: usize = 36;
+
+pub const SUM: usize = 37;
+
+pub const SUM_AT: usize = 38;
+
+pub const PROJECT: usize = 39;
+
+pub const PROJECT_AT: usize = 40;
 
 // The kind of a name; a number above all kinds where there is none.
 pub fn of(name: &[u8]) -> usize {
     let names = b" group chain ladder torus2 torus3 set word bytes modes orbit next order modulus \
         invert targets text weight compare compare_text canonicalize with_index orbit_list \
         numerator table counter with_shift sector beside sheet sheet_end sheet_in clear row \
-        rows numbered sum sum_at";
+        rows whole wholes numbered sum sum_at project project_at";
     place(name, names)
 }
 
@@ -109,9 +117,9 @@ pub fn has_form(kind: usize, count: usize) -> bool {
         CHAIN | NEXT | NUMBERED | INVERT | WITH_SHIFT | ORBIT_LIST | TABLE | SECTOR | BESIDE => {
             count == 1
         }
-        LADDER | TORUS2 | COUNTER | SUM_AT => count == 2,
+        LADDER | TORUS2 | COUNTER | SUM_AT | PROJECT_AT => count == 2,
         TORUS3 => count == 3,
-        SUM => count == 0 || count == 5,
+        SUM | PROJECT => count == 0 || count == 5,
         _ => true,
     }
 }

@@ -2,4 +2,6 @@
 pub mod fields;
 pub mod hex;
 pub mod kinds;
+pub mod sizes;
 pub mod texts;
+pub mod wholes;

@@ -15,13 +15,19 @@ use case_text::texts;
 use group::Group;
 
 // Prints a line for a line.
-pub fn line(s: State, line: &[u8], words: &mut [u8], coefficients: &mut [f64]) -> State {
+pub fn line(
+    s: State,
+    line: &[u8],
+    words: &mut [u8],
+    coefficients: &mut [f64],
+    wholes: &mut [i64],
+) -> State {
     if is_comment(line) {
         lines::text(line);
         lines::byte(b'\n');
         return s;
     }
-    let t = named(s, line, words, coefficients);
+    let t = named(s, line, words, coefficients, wholes);
     lines::byte(b'\n');
     t
 }
@@ -34,10 +40,17 @@ fn is_comment(line: &[u8]) -> bool {
 }
 
 // The first field is the line's name.
-fn named(s: State, line: &[u8], words: &mut [u8], coefficients: &mut [f64]) -> State {
+fn named(
+    s: State,
+    line: &[u8],
+    words: &mut [u8],
+    coefficients: &mut [f64],
+    wholes: &mut [i64],
+) -> State {
     let k = text::read::find(line, b' ');
     if k <= line.len() {
-        return of_kind(s, kinds::of(&line[0..k]), &line[k..], words, coefficients);
+        let kind = kinds::of(&line[0..k]);
+        return of_kind(s, kind, &line[k..], words, coefficients, wholes);
     }
     s
 }
@@ -48,6 +61,7 @@ fn of_kind(
     rest: &[u8],
     words: &mut [u8],
     coefficients: &mut [f64],
+    wholes: &mut [i64],
 ) -> State {
     let args = fields::read_args(rest);
     if !kinds::has_form(kind, args.count) {
@@ -63,7 +77,13 @@ fn of_kind(
             sheets::answer(kind, rest);
             s
         }
-        kinds::CLEAR..=kinds::SUM_AT => summed(s, kind, rest, args, words, coefficients),
+        kinds::CLEAR..=kinds::NUMBERED => {
+            put_rows(s, kind, rest, args, words, coefficients, wholes)
+        }
+        kinds::SUM..=kinds::PROJECT_AT => {
+            summed(s, kind, args, words, coefficients, wholes);
+            s
+        }
         _ => s.other(),
     }
 }
@@ -133,21 +153,44 @@ fn ask(s: State, kind: usize, rest: &[u8], args: Args) {
     );
 }
 
-// The lines of sums.
-fn summed(
+// The lines that change the rows of a sum.
+fn put_rows(
     mut s: State,
     kind: usize,
     rest: &[u8],
     args: Args,
     words: &mut [u8],
     coefficients: &mut [f64],
+    wholes: &mut [i64],
 ) -> State {
     let bytes = s.word.bytes;
-    let word = texts::front(&bytes, s.word.length);
-    if kind < kinds::SUM {
-        s.rows = sums::put(s.rows, word, kind, rest, args.list[0], words, coefficients);
-    } else {
-        sums::fold(s.group, s.word.n, s.rows, kind, args, words, coefficients);
-    }
+    s.rows = sums::put(
+        s.rows,
+        texts::front(&bytes, s.word.length),
+        kind,
+        rest,
+        args.list[0],
+        words,
+        coefficients,
+        wholes,
+    );
     s
+}
+
+// The lines that fold or project them.
+fn summed(s: State, kind: usize, args: Args, words: &[u8], coefficients: &[f64], wholes: &[i64]) {
+    if kind < kinds::PROJECT {
+        sums::fold(s.group, s.word.n, s.rows, args, words, coefficients);
+    } else {
+        let modes = s.modes.list;
+        case_projections::project(
+            s.group,
+            sectors::front(&modes, s.modes.count),
+            s.word.n,
+            s.rows,
+            args,
+            words,
+            wholes,
+        );
+    }
 }

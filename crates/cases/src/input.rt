@@ -4,9 +4,9 @@ ghost use lib.ListN.{length};
 use crate::answer;
 use crate::state;
 use crate::state::State;
-use case_rows::ROW_BYTES;
-use case_rows::ROW_ROOM;
 use case_rows::sheets::SHEET_ROOM;
+use case_text::sizes::ROW_BYTES;
+use case_text::sizes::ROW_ROOM;
 use case_text::texts;
 use libc::STDIN_FILENO;
 
@@ -25,11 +25,12 @@ pub fn run() {
     let mut line = [0u8; LINE_ROOM];
     let mut words = [0u8; ROW_BYTES];
     let mut coefficients = [0.0f64; ROW_ROOM];
-    all(&mut line, &mut words, &mut coefficients);
+    let mut wholes = [0i64; ROW_ROOM];
+    all(&mut line, &mut words, &mut coefficients, &mut wholes);
 }
 
 // A proved loop has to end, and nothing says that the input does: it counts its turns down, from a number that no run uses up.
-fn all(line: &mut [u8], words: &mut [u8], coefficients: &mut [f64]) {
+fn all(line: &mut [u8], words: &mut [u8], coefficients: &mut [f64], wholes: &mut [i64]) {
     let mut r = Reading {
         state: state::nothing(),
         length: 0,
@@ -37,7 +38,7 @@ fn all(line: &mut [u8], words: &mut [u8], coefficients: &mut [f64]) {
     };
     let mut turns = u64::MAX;
     while 0 < turns {
-        r = chunk(r, line, words, coefficients);
+        r = chunk(r, line, words, coefficients, wholes);
         if r.over {
             return;
         }
@@ -46,14 +47,20 @@ fn all(line: &mut [u8], words: &mut [u8], coefficients: &mut [f64]) {
 }
 
 // Reads once, and answers the lines that end there.
-fn chunk(r: Reading, line: &mut [u8], words: &mut [u8], coefficients: &mut [f64]) -> Reading {
+fn chunk(
+    r: Reading,
+    line: &mut [u8],
+    words: &mut [u8],
+    coefficients: &mut [f64],
+    wholes: &mut [i64],
+) -> Reading {
     let mut bytes = io::large_buffer();
     let got = libc::read(STDIN_FILENO, &mut bytes);
     if got <= 0 {
         return over(r, got < 0);
     }
     let n = io::count(got, &bytes);
-    take(r, &bytes[..n], line, words, coefficients)
+    take(r, &bytes[..n], line, words, coefficients, wholes)
 }
 
 // The input ended, or a read failed. Bytes after the last line end are no line.
@@ -72,6 +79,7 @@ fn take(
     line: &mut [u8],
     words: &mut [u8],
     coefficients: &mut [f64],
+    wholes: &mut [i64],
 ) -> Reading {
     let mut s = r.state;
     let mut held = r.length;
@@ -79,7 +87,7 @@ fn take(
     let mut end = line_end(bytes, 0);
     while end < bytes.len() {
         let next = end + 1;
-        s = ended(s, &bytes[at..end], line, held, words, coefficients);
+        s = ended(s, &bytes[at..end], line, held, words, coefficients, wholes);
         held = 0;
         at = next;
         end = line_end(bytes, next);
@@ -112,10 +120,11 @@ fn ended(
     held: usize,
     words: &mut [u8],
     coefficients: &mut [f64],
+    wholes: &mut [i64],
 ) -> State {
     let length = texts::append(bytes, line, held, b'\n');
     if length < line.len() {
-        return answer::line(s, &line[0..length], words, coefficients);
+        return answer::line(s, &line[0..length], words, coefficients, wholes);
     }
     lines::text(b"?\n");
     s

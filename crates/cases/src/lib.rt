@@ -39,15 +39,25 @@
 // |                                 | last two into K places                                    | LETTERS                                            |
 // | `clear`                         | nothing: no rows                                          | `set`                                              |
 // | `row HEX`, `rows K HEX`         | nothing: the word, cut or filled up to WORD_BYTES, with   | `set`                                              |
-// |                                 | the float of these bits, or `nan`, is a row more, or K    |                                                    |
+// |                                 | the float of these bits, or `nan`, and the whole number   |                                                    |
+// |                                 | 0 is a row more, or K                                     |                                                    |
+// | `whole C`, `wholes K C`         | nothing: likewise with the float 0.0 and the whole number | `set`                                              |
+// |                                 | C, signed 64                                              |                                                    |
 // | `numbered K`                    | nothing: K rows, each its number, in binary digits as X   | `set`                                              |
-// |                                 | from site 0 on, and as a float                            |                                                    |
+// |                                 | from site 0 on, as a float and as a whole number          |                                                    |
 // | `sum`                           | canonicalize_pauli_sum                                    | `N rows:` and ` LETTERS HEX COUNT` for each; or    |
 // |                                 |                                                           | REFUSED and `, as they were`, `, zeros` or         |
 // |                                 |                                                           | `, changed`                                        |
 // | `sum W R P S C`                 | the same with lists of these lengths: bytes of words,     | likewise                                           |
 // |                                 | coefficients, bytes of representatives, sums, counts      |                                                    |
 // | `sum_at A B`                    | as `sum`                                                  | of the lists the rows A to B - 1, zeros too        |
+// | `project`                       | project_pauli_sum, with the whole numbers                 | `K kept, D dropped:` and ` LETTERS COSINE SINE`    |
+// |                                 |                                                           | for each row of the table, ` and more after them`  |
+// |                                 |                                                           | if the rest is not zeros; or REFUSED and           |
+// |                                 |                                                           | `, as they were` or `, changed`                    |
+// | `project W R P C S`             | the same with lists of these lengths: bytes of words,     | likewise                                           |
+// |                                 | coefficients, bytes of representatives, cosines, sines    |                                                    |
+// | `project_at A B`                | as `project`                                              | of the lists the rows A to B - 1, zeros too        |
 // | `sheet TEXT`                    | sheet_text; in TEXT `|` is byte 10, `\HH` a byte in       | what the sheet prints, `|` for byte 10             |
 // |                                 | hexadecimal, `{K:TEXT}` K times TEXT                      |                                                    |
 // | `sheet_end TEXT`                | the same                                                  | the lengths of the sheet and of what it prints,    |

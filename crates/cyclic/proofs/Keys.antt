@@ -8,9 +8,10 @@ use lib.ListN.{getD}
 use Rattle.pauli_word.specs.declared.Ordering.the-variants.{Less, Same}
 use Rattle.pauli_word.specs.Word.{I, letterOf, less}
 use Rattle.action.specs.Lists.{below}
+use Rattle.action.proofs.Below.{map-below-cong}
 use Rattle.elements.proofs.LeastSoFar.{order-less}
 use Rattle.packed.specs.Packed.{lettersBy, rotated, LessAt}
-use Rattle.packed.proofs.Packing.{map-below-cong, lettersBy-at, lettersBy-length}
+use Rattle.packed.proofs.Packing.{lettersBy-at, lettersBy-length}
 use Rattle.packed.proofs.Comparing.{order-listed, order-letters}
 use Rattle.rotation.proofs.Rotations.{rotated-inside}
 use Rattle.cyclic.specs.Cyclic.{turned}

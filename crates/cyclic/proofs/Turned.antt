@@ -53,13 +53,13 @@ use Rattle.action.specs.Index.{orderOf, digits, index, addDigits, add, inverseD
 use Rattle.action.specs.Orbit.{move, byDigits, reach, least, forward, indexBack, fixes, fixing, orbitSize}
 use Rattle.action.specs.Sector.{modulus, numerator, trivial, keeps}
 use Rattle.action.proofs.Lists.{member-below, of-member-below, noRepeats-below, length-below, every-intro, every-elim, count-select, count-cong, count-true, count-bijection, bool-ext}
+use Rattle.action.proofs.Below.{map-below-at, map-below-length}
 use Rattle.action.proofs.Index.{Positive, valid-positive}
 use Rattle.action.proofs.Reach.{reach-length, reach-add, reach-inverse}
 use Rattle.action.proofs.Canonical.{orbit-intro, least-least, forward-first, forward-below, forward-reaches}
 use Rattle.action.proofs.Stabilizer.{fixes-intro, fixes-elim, fixing-positive}
 use Rattle.action.proofs.Characters.{numerator-index-add}
 use Rattle.packed.specs.Packed.{rotated}
-use Rattle.packed.proofs.Packing.{map-below-at, map-below-length}
 use Rattle.rotation.specs.Rotation.{rotation}
 use Rattle.rotation.proofs.Rotations.{rotated-mod, rotated-zero, rotated-add, rotated-inside, rotation-mod, move-rotation, moves-rotation}
 use Rattle.rotation.proofs.XPlane.{least-is, forward-is, trivial-zero}

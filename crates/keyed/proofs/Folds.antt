@@ -1,6 +1,6 @@
 -- What a key comes to over rows, as rows are appended, and the first place where a test fails.
 -- The fact that carries it: the contents of a key over appended rows are its contents appended (`contents-append`).
-use Prim.Native.Nat.{ℕ, zero, suc, _<_, suc-le-suc}
+use Prim.Native.Nat.{ℕ, zero, suc, _≤_, _<_, suc-le-suc}
 use native.Mathlib.Nat.{le-of-suc-le-suc, not-suc-le-zero}
 use native.Mathlib.Omega.{arith}
 use mathlib.Core.Path.{_≡_, refl, sym, _∙_, ap}
@@ -96,6 +96,15 @@ module _ {K C S : Type 0} (f : Fold K C S) where
   unfolding contentsOf
   contents-length k rows =
       length-map (select (λ row. f .same (row .0) k) rows) (λ row. row .1) ∙ sym (count-select (λ row. f .same (row .0) k) rows)
+
+  pub contents-few : (k : K) (rows : List (K × C)) → length (contentsOf f k rows) ≤ length rows
+  unfolding contentsOf select
+  contents-few k [] = omega arith
+  contents-few k (row ∷ rows) = go (f .same (row .0) k) refl (contents-few k rows)
+    where
+      go : (t : Bool) → f .same (row .0) k ≡ t → length (contentsOf f k rows) ≤ length rows → length (contentsOf f k (row ∷ rows)) ≤ length (row ∷ rows)
+      go true e h = rw e (omega arith)
+      go false e h = rw e (omega arith)
 
   pub fold-append : (k : K) (xs ys : List (K × C)) → foldKey f k (xs ++ ys) ≡ leftFold (f .step) (foldKey f k xs) (contentsOf f k ys)
   unfolding foldKey

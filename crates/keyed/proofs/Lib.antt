@@ -4,3 +4,6 @@ pub mod Rising
 pub mod Folds
 pub mod Tables
 pub mod Sums
+pub mod Places
+pub mod Commuting
+pub mod WordKeys

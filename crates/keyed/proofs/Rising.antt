@@ -198,10 +198,6 @@ member-getD [] d i h = absurd (not-suc-le-zero h)
 member-getD (a ∷ xs) d zero h = inl refl
 member-getD (a ∷ xs) d (suc i) h = inr (member-getD xs d i (le-of-suc-le-suc h))
 
-abbrev Free : Slot → Type 0
-Free (found i) = ⊥
-Free (free i) = Unit {0}
-
 -- a slot that is found is one where k stands
 abbrev Stands : {K : Type 0} → Slot → K → K → List K → Type 0
 Stands (found i) d k js = getD js i d ≡ k
@@ -286,18 +282,6 @@ module _ {K : Type 0} {P : K → Type 0} {less : K → K → Bool} (o : Orders P
   slot-own (j ∷ js) d r (suc m) h =
       rw (rising-above j js r (getD js m d) (member-getD js d m (le-of-suc-le-suc h)))
       (ap nextSlot (slot-own js d (rising-tail less j js r) m (le-of-suc-le-suc h)))
-
-  slot-member : (js : List K) → Rising less js → (k : K) → Member k js → (m : ℕ) × (slotOf less k js ≡ found m)
-  unfolding slotOf
-  slot-member [] r k m = absurd m
-  slot-member (j ∷ js) r k (inl e) = (0, rw (e, o .irrefl j) refl)
-  slot-member (j ∷ js) r k (inr m) =
-      let (i, later) = slot-member js (rising-tail less j js r) k m in
-      (suc i, rw (rising-above j js r k m) (ap nextSlot later))
-
-  -- a key whose slot is free does not stand there
-  pub slot-free-new : (k : K) (js : List K) (i : ℕ) → Rising less js → slotOf less k js ≡ free i → Member k js → ⊥
-  slot-free-new k js i r e m = let (j, h) = slot-member js r k m in subst Free (sym e ∙ h) tt
 
   pub slot-found-at :
       (k : K) (js : List K) (d : K) (i : ℕ) → P k → ((a : K) → Member a js → P a) → slotOf less k js ≡ found i

@@ -6,12 +6,12 @@ use mathlib.Core.Path.{_≡_, refl, sym, _∙_, ap, ap₂}
 use mathlib.Core.Logic.{_⊎_, inl, inr, ⊎-elim}
 use mathlib.Core.Bool.{Bool, true, false, false≢true}
 use mathlib.Core.List.{List, [], _∷_, _++_, map, map-map}
-use lib.ListN.{length, getD}
+use lib.ListN.{length, getD, replicate}
 use Rattle.pauli_word.proofs.Words.{map-append}
 use Rattle.action.specs.Lists.{Member, select}
 use Rattle.action.proofs.Lists.{member-map, of-member-map, of-member-append, member-append-left, member-append-right}
-use Rattle.keyed.specs.Keyed.{Fold, Equality, insertKey, rising, renamed, insertAt, keyOf, contentsOf, foldKey, tableOf, runningFrom, running}
-use Rattle.keyed.proofs.Rising.{rising-next, of-rising-member, rising-renamed}
+use Rattle.keyed.specs.Keyed.{Fold, Equality, rising, renamed, insertAt, keyOf, contentsOf, foldKey, tableOf, runningFrom, running}
+use Rattle.keyed.proofs.Rising.{of-rising-member, rising-renamed}
 use Rattle.keyed.proofs.Folds.{by-last, fold-other, running-next}
 
 -- ---- lists with a member for each key
@@ -25,6 +25,10 @@ module _ {A B : Type 0} where
   getD-map g [] i d c l = absurd (not-suc-le-zero l)
   getD-map g (a ∷ xs) zero d c l = refl
   getD-map g (a ∷ xs) (suc i) d c l = getD-map g xs i d c (le-of-suc-le-suc l)
+
+  pub map-replicate : (g : A → B) (n : ℕ) (a : A) → map g (replicate n a) ≡ replicate n (g a)
+  map-replicate g zero a = refl
+  map-replicate g (suc n) a = ap (λ (l : List B). g a ∷ l) (map-replicate g n a)
 
   pub map-insertAt : (g : A → B) (i : ℕ) (a : A) (xs : List A) → map g (insertAt i a xs) ≡ insertAt i (g a) (map g xs)
   map-insertAt g zero a xs = refl
@@ -62,10 +66,6 @@ module _ {K C S : Type 0} (f : Fold K C S) where
   table-value rows k s m =
       let (a, n, e) = of-member-map (valueOf f rows) (keysOf f rows) (k, s) m in
       ap (λ (r : K × S). r .1) e ∙ ap (λ (b : K). foldKey f b rows) (sym (ap keyOf e))
-
-  -- the keys with one row more
-  pub keys-after : (rows : List (K × C)) (row : K × C) → keysOf f (rows ++ (row ∷ [])) ≡ insertKey (f .less) (row .0) (keysOf f rows)
-  keys-after rows row = ap (rising (f .less)) (keys-next rows row) ∙ rising-next (f .less) (map keyOf rows) (row .0)
 
   module _ (q : Equality (f .same)) where
     -- a key other than the last row's has a row before it

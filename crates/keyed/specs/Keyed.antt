@@ -1,11 +1,12 @@
 -- Rows folded by their keys. A row is a key and a content. The table of rows has each key once, in rising order, and with it the fold of the
 -- contents of the rows that have this key, in the order of the rows.
-use Prim.Native.Nat.{ℕ, suc}
+use Prim.Native.Nat.{ℕ, zero, suc}
 use mathlib.Core.Path.{_≡_}
 use mathlib.Core.Bool.{Bool, true, false, cond}
 use mathlib.Core.List.{List, [], _∷_, _++_, map}
-use lib.ListN.{take, drop}
-use Rattle.action.specs.Lists.{select}
+use lib.Dec.{ltb, eqb}
+use lib.ListN.{getD, take, drop}
+use Rattle.action.specs.Lists.{below, select}
 
 -- how rows are folded: the order and the equality of keys, what a fold starts from, and how it takes a content
 pub record Fold (K C S : Type 0) : Type 0 where
@@ -109,3 +110,19 @@ running f rows = runningFrom f [] rows
 unfoldable pub firstFailing : {A : Type 0} → (A → Bool) → List A → ℕ
 firstFailing p [] = 0
 firstFailing p (a ∷ xs) = let later = suc (firstFailing p xs) in cond (p a) later 0
+
+-- ---- the fold by place: keys that are places of a list
+
+-- a fold whose keys are places
+abbrev pub byPlace : {C S : Type 0} → S → (S → C → S) → Fold ℕ C S
+byPlace start step = record { less = ltb; same = eqb; start = start; step = step }
+
+-- the first k contents of a list, each with the place that the other list has for it; d is no content
+unfoldable pub placed : {C : Type 0} → C → List ℕ → List C → ℕ → List (ℕ × C)
+placed d places cs zero = []
+placed d places cs (suc k) = placed d places cs k ++ ((getD places k 0, getD cs k d) ∷ [])
+
+-- what each place below n comes to
+unfoldable pub placeValues : {C S : Type 0} → Fold ℕ C S → ℕ → List (ℕ × C) → List S
+unfolding foldKey below
+placeValues f n rows = map (λ k. foldKey f k rows) (below n)

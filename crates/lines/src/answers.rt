@@ -32,7 +32,8 @@ fn values(why: Refusal) {
         | Refusal::RowBitAboveSites(a)
         | Refusal::NotFinite(a)
         | Refusal::SumNotFinite(a)
-        | Refusal::NotALetter(a) => one(a),
+        | Refusal::NotALetter(a)
+        | Refusal::CoefficientRange(a) => one(a),
         Refusal::LengthMismatch(a, b)
         | Refusal::PermutationLength(a, b)
         | Refusal::TargetOutOfRange(a, b)

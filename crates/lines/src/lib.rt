@@ -39,13 +39,17 @@ pub fn number32(n: u32) {
 }
 
 // A number with its sign.
-pub fn signed32(n: i32) {
+pub fn signed(n: i64) {
     if n < 0 {
         text(b"-");
-        io::print_decimal(STDOUT_FILENO, (-(n as i64)) as u64);
+        io::print_decimal(STDOUT_FILENO, (-1 - n) as u64 + 1);
     } else {
         io::print_decimal(STDOUT_FILENO, n as u64);
     }
+}
+
+pub fn signed32(n: i32) {
+    signed(n as i64);
 }
 
 // A float by its bits, sixteen hexadecimal digits, so that each float has its own text.

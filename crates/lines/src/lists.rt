@@ -69,6 +69,17 @@ pub fn digits_are(list: &[u32], value: u32) -> bool {
     true
 }
 
+pub fn wholes_are(list: &[i64], value: i64) -> bool {
+    let mut i = 0;
+    while i < list.len() {
+        if list[i] != value {
+            return false;
+        }
+        i += 1;
+    }
+    true
+}
+
 pub fn floats_are(list: &[f64], value: f64) -> bool {
     let mut i = 0;
     while i < list.len() {

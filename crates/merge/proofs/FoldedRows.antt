@@ -2,25 +2,21 @@
 -- The fact that carries it: words of one length are ordered as their bytes are (`less-bytes`), and rows folded by renamed keys are the renamed rows.
 use Prim.Native.Nat.{ℕ, zero, suc, _-_, _≤_, _<_}
 use mathlib.Core.Path.{_≡_, refl, sym, ap, ap₂, _∙_}
-use mathlib.Core.Bool.{Bool, true, false, not, cond}
+use mathlib.Core.Bool.{not}
 use mathlib.Core.List.{List, [], _∷_, _++_, map, map-map}
 use native.Mathlib.Numerals.{add-one}
 use native.Mathlib.Omega.{arith}
-use lib.ListN.{length, getD, take, drop, replicate, length-map}
+use lib.ListN.{length, getD, take, drop, length-map}
 use lib.Seq.{take-at, drop-at, take-all}
 use lib.Ieee.{Float, nan}
 use Rattle.outcome.specs.declared.Refusal.the-variants as Refusal
 use Rattle.outcome.specs.Outcome.{Outcome, refused, answer, rule, verdict, given, onAnswer}
-use Rattle.pauli_word.specs.declared.Ordering.{Ordering}
-use Rattle.pauli_word.specs.declared.Ordering.the-variants.{Less, Same, Greater}
 use Rattle.pauli_word.specs.Limits.{maxSites, planeLength, wordLength}
-use Rattle.pauli_word.specs.Word.{Word, less, same}
-use Rattle.pauli_word.specs.Bytes.{planeBits, lettersIn, bytesOf}
-use Rattle.pauli_word.specs.Calls.{orderOfBits, orderOfWords}
-use Rattle.pauli_word.proofs.Words.{map-append, encode-length, decode-length, encoded-accepted, encoded-decode}
-use Rattle.pauli_word.proofs.WordOrder.{order-words, same-refl, same-eq}
-use Rattle.action.specs.Lists.{Member, sameNumbers, from, below, every}
-use Rattle.action.proofs.Lists.{bool-ext, sameNumbers-eq, sameNumbers-refl, of-member-map, of-member-below}
+use Rattle.pauli_word.specs.Word.{Word}
+use Rattle.pauli_word.specs.Bytes.{lettersIn, bytesOf}
+use Rattle.pauli_word.proofs.Words.{map-append, encode-length, decode-length}
+use Rattle.action.specs.Lists.{Member, from, below, every}
+use Rattle.action.proofs.Lists.{of-member-map, of-member-below}
 use Rattle.action.proofs.Canonical.{least-length}
 use Rattle.elements.specs.HeldGroup.{encodeAll}
 use Rattle.elements.proofs.Orbits.{below-next}
@@ -29,48 +25,15 @@ use Rattle.group.specs.Value.{AcceptedGroup}
 use Rattle.group.proofs.MadeGroups.{held-valid}
 use Rattle.keyed.specs.Keyed.{keyOf, renamed, tableOf, firstFailing}
 use Rattle.keyed.proofs.Tables.{getD-map, table-renamed, running-renamed}
-use Rattle.row_lists.specs.Rows.{rowAt}
-use Rattle.row_lists.specs.Rows as Rows
+use Rattle.row_lists.specs.Rows.{rowAt, rowsIn}
+use Rattle.row_lists.specs.Checks.{AcceptedRows}
+use Rattle.row_lists.proofs.RowsIn.{rows-length, rows-at, rows-next}
+use Rattle.row_words.proofs.WordBytes.{less-bytes, same-bytes}
 use Rattle.sum_rows.specs.declared.row_sum.RowSum.{RowSum}
-use Rattle.sum_rows.specs.Sums.{finiteSum, overflow, foldOutcome, sumsFilled, countsFilled, handedBack}
-use Rattle.sum_rows.specs.Rows.{rowsIn, lessBytes, byteSums}
-use Rattle.sum_rows.proofs.RowKeys.{rows-length, rows-at, rows-next}
-use Rattle.merge.specs.Calls.{representative, representativeRows, wordSums, foldedSum, representativesOf, AcceptedRows}
-
--- ---- words of n letters are compared as their bytes are
-
-isLess : Ordering → Bool
-isLess Less = true
-isLess Same = false
-isLess Greater = false
-
-order-tells : (s t : Bool) → isLess (cond s Less (cond t Greater Same)) ≡ s
-unfolding isLess
-order-tells true t = refl
-order-tells false true = refl
-order-tells false false = refl
-
-module _ (n : ℕ) (few : n ≤ maxSites) (v w : Word) (lv : length v ≡ n) (lw : length w ≡ n) where
-  decoded : (u : Word) → length u ≡ n → lettersIn n (bytesOf u) ≡ u
-  decoded u l = encoded-decode planeLength u l few refl
-
-  order-bytes : orderOfBits (planeBits (bytesOf v)) (planeBits (bytesOf w)) ≡ orderOfWords v w
-  order-bytes =
-      order-words (encoded-accepted planeLength v lv few refl) (encoded-accepted planeLength w lw few refl)
-      ∙ ap₂ orderOfWords (decoded v lv) (decoded w lw)
-
-  pub less-bytes : lessBytes (bytesOf v) (bytesOf w) ≡ less v w
-  unfolding lessBytes orderOfBits orderOfWords
-  less-bytes =
-      sym (order-tells (lessBytes (bytesOf v) (bytesOf w)) (lessBytes (bytesOf w) (bytesOf v)))
-      ∙ ap isLess order-bytes
-      ∙ order-tells (less v w) (less w v)
-
-  pub same-bytes : sameNumbers (bytesOf v) (bytesOf w) ≡ same v w
-  same-bytes =
-      bool-ext (sameNumbers (bytesOf v) (bytesOf w)) (same v w)
-      (λ e. let k : v ≡ w = sym (decoded v lv) ∙ ap (lettersIn n) (sameNumbers-eq (bytesOf v) (bytesOf w) e) ∙ decoded w lw in rw k (same-refl w))
-      (λ e. rw (same-eq v w e) (sameNumbers-refl (bytesOf w)))
+use Rattle.sum_rows.specs.Sums.{finiteSum, overflow, foldOutcome, handedBack}
+use Rattle.sum_rows.specs.Sums as Sums
+use Rattle.sum_rows.specs.Rows.{byteSums}
+use Rattle.merge.specs.Calls.{representative, representativeRows, wordSums, foldedSum, representativesOf}
 
 -- ---- rows
 
@@ -93,7 +56,7 @@ module _ (words : List ℕ) (cs : List Float) where
   unfolding below from
   rows-taken zero h = refl
   rows-taken (suc i) h =
-      rows-next words cs i h
+      rows-next words cs i nan h
       ∙ ap (λ (l : List (List ℕ × Float)). l ++ (rowOf i ∷ [])) (rows-taken i (omega arith))
       ∙ sym (ap (λ (j : ℕ). map rowOf (below j)) (sym (add-one i)) ∙ ap (map rowOf) (below-next i) ∙ map-append rowOf (below i) (i ∷ []))
 
@@ -128,11 +91,11 @@ module _ (g : Group) (words : List ℕ) (cs : List Float) where
   representatives-length = length-map (rowsIn words cs) (renamed (representative g)) ∙ rows-length words cs
 
   -- row i has its representative
-  pub representative-at : (i : ℕ) → i < length cs → getD (representativeRows g (rowsIn words cs)) i ([], Rows.zero) .0 ≡ representative g (rowAt words i)
+  pub representative-at : (i : ℕ) → i < length cs → getD (representativeRows g (rowsIn words cs)) i ([], Sums.zero) .0 ≡ representative g (rowAt words i)
   unfolding representativeRows
   representative-at i h =
-      ap keyOf (getD-map (renamed (representative g)) (rowsIn words cs) i ([], Rows.zero) ([], nan) (omega (arith, rows-length words cs)))
-      ∙ ap (λ (row : List ℕ × Float). representative g (row .0)) (rows-at words cs i ([], nan) h)
+      ap keyOf (getD-map (renamed (representative g)) (rowsIn words cs) i ([], Sums.zero) ([], nan) (omega (arith, rows-length words cs)))
+      ∙ ap (λ (row : List ℕ × Float). representative g (row .0)) (rows-at words cs i nan ([], nan) h)
 
   -- a representative is that of some row
   pub representative-of : (w : Word) → Member w (map keyOf (representativeRows g (rowsIn words cs)))
@@ -184,14 +147,3 @@ module _ {A B : Type 0} (φ : A → B) where
   pub length-renamed : (o : Outcome (List A)) → onAnswer length (onAnswer (map φ) o) ≡ onAnswer length o
   length-renamed (refused k vs) = refl
   length-renamed (answer xs) = ap answer (length-map xs φ)
-
-module _ {K J : Type 0} (φ : K → J) (k : ℕ) (table : List (K × RowSum)) where
-  pub sums-renamed : sumsFilled k (map (renamed φ) table) ≡ sumsFilled k table
-  sums-renamed =
-      ap₂ (λ (sums : List Float) (l : ℕ). sums ++ replicate (k - l) Rows.zero)
-      (map-map (λ row. row .1 .coefficient) (renamed φ) table) (length-map table (renamed φ))
-
-  pub counts-renamed : countsFilled k (map (renamed φ) table) ≡ countsFilled k table
-  counts-renamed =
-      ap₂ (λ (counts : List ℕ) (l : ℕ). counts ++ replicate (k - l) 0)
-      (map-map (λ row. row .1 .rows) (renamed φ) table) (length-map table (renamed φ))

@@ -12,10 +12,10 @@ use borrow.Author.Tests.{not-false}
 use Rattle.outcome.specs.declared.Refusal.the-variants as Refusal
 use Rattle.outcome.specs.Outcome.{refused, answer, refusalOf, rule, unless}
 use Rattle.outcome.proofs.Outcomes.{refused-apart, one-answered}
-use Rattle.pauli_word.specs.Word.{Word, less, same}
+use Rattle.pauli_word.specs.Word.{Word, less}
 use Rattle.pauli_word.specs.Bytes.{lettersIn}
 use Rattle.pauli_word.proofs.Words.{decode-length}
-use Rattle.pauli_word.proofs.WordOrder.{less-irrefl, less-trans, less-total, same-refl, same-eq}
+use Rattle.pauli_word.proofs.WordOrder.{same-refl}
 use Rattle.action.specs.Lists.{Member, every, total}
 use Rattle.action.specs.Orbit.{isRepresentative}
 use Rattle.action.proofs.Lists.{every-elim, total-cong, total-map}
@@ -23,30 +23,20 @@ use Rattle.action.proofs.Canonical.{least-own}
 use Rattle.group.specs.declared.Group.{Group}
 use Rattle.group.specs.Value.{generatorsOf, AcceptedGroup}
 use Rattle.group.proofs.MadeGroups.{held-valid}
-use Rattle.keyed.specs.Keyed.{Orders, Equality, rising, keyOf, contentsOf, leftFold, foldKey, tableOf, running, firstFailing}
-use Rattle.keyed.proofs.Rising.{neither-less, rising-rising, rising-member, of-rising-member}
+use Rattle.keyed.specs.Keyed.{rising, keyOf, contentsOf, leftFold, foldKey, tableOf, running, firstFailing}
+use Rattle.keyed.proofs.Rising.{rising-rising, rising-member, of-rising-member}
 use Rattle.keyed.proofs.Folds.{contents-some, running-length, running-at, firstFailing-first}
 use Rattle.keyed.proofs.Tables.{table-keys, table-key, table-value, table-running}
 use Rattle.keyed.proofs.Sums.{contents-total}
-use Rattle.row_lists.specs.Rows.{rowAt, zero}
+use Rattle.keyed.proofs.WordKeys.{word-orders, word-equality}
+use Rattle.row_lists.specs.Rows.{rowAt}
+use Rattle.row_lists.specs.Checks.{AcceptedRows}
 use Rattle.sum_rows.specs.declared.row_sum.RowSum.{RowSum}
-use Rattle.sum_rows.specs.Sums.{finite, noRows, finiteSum, overflow, foldOutcome}
+use Rattle.sum_rows.specs.Sums.{zero, finite, noRows, finiteSum, overflow, foldOutcome}
 use Rattle.sum_rows.proofs.RowSums.{fold-coefficient, fold-rows}
-use Rattle.merge.specs.Calls.{representative, wordSums, foldedSum, AcceptedRows}
+use Rattle.merge.specs.Calls.{representative, wordSums, foldedSum}
 use Rattle.merge.specs.Promises.{inputRows, coefficientsOf, FoldedRow, FoldedTable, sumAt, OverflowsAt}
 use Rattle.merge.proofs.FoldedRows.{representatives-length, representative-at, representative-of, representative-long}
-
--- ---- words of one length are keys
-
-pub word-orders : (n : ℕ) → Orders (λ w. length w ≡ n) less
-word-orders n = record {
-  irrefl = less-irrefl;
-  trans = less-trans;
-  total = λ v w lv lw. neither-less less v w (less-total v w (lv ∙ sym lw));
-}
-
-pub word-equality : Equality same
-word-equality = record { reflexive = same-refl; equal = same-eq }
 
 -- ---- the table
 

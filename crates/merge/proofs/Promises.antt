@@ -16,10 +16,11 @@ use Rattle.pauli_word.specs.Bytes.{Bytes}
 use Rattle.group.specs.declared.Group.{Group}
 use Rattle.group.specs.Value.{GivenBy}
 use Rattle.group.proofs.Promises.{given-group}
+use Rattle.row_lists.proofs.ListChecks.{given-answered}
 use Rattle.sum_rows.specs.declared.row_sum.RowSum.{RowSum}
 use Rattle.merge.specs.Calls.{sumChecks, foldedSum, sumOutcome}
 use Rattle.merge.specs.Promises.{FoldedTable, OverflowsAt}
-use Rattle.merge.proofs.SumChecks.{given-answered, checked-sum, checked-rows, numberIn, checks-before-25}
+use Rattle.merge.proofs.SumChecks.{passed-rows, numberIn, checks-before-25}
 use Rattle.merge.proofs.FoldedSums.{table-folded, answered-table, refused-overflows}
 
 given-refused : {A : Type 0} (v : Outcome (Unit {0})) (o : Outcome A) (k : ℕ) (vs : List ℕ) → given v o ≡ refused k vs
@@ -36,9 +37,10 @@ module _ (g : Group) (by : GivenBy g) (words : List ℕ) (small : Bytes words) (
   answered-folded table e =
       let checks = verdict (sumChecks g words cs (length representatives) (length sums) (length counts)) in
       let (pass, folded) = given-answered checks (foldedSum g words cs) table e in
-      let checked = checked-sum g words cs (length representatives) (length sums) (length counts) pass in
+      let group = given-group g by in
+      let rows = passed-rows g words cs (length representatives) (length sums) (length counts) pass (group .few) small in
       let (finite, same) = answered-table g words cs table folded in
-      subst (FoldedTable g words cs) same (table-folded g words cs (given-group g by) (checked-rows checked small) finite)
+      subst (FoldedTable g words cs) same (table-folded g words cs group rows finite)
 
   -- ---- 2 A refused sum: 25 is with the first row whose running sum is not finite; past its checks a sum is refused by nothing else
 

@@ -17,12 +17,15 @@ use Rattle.elements.proofs.Orbits.{encodeAll-length}
 use Rattle.group.specs.declared.Group.{Group}
 use Rattle.group.specs.Value.{AcceptedGroup}
 use Rattle.keyed.specs.Keyed.{renamed}
-use Rattle.row_lists.specs.Rows.{rowAt}
+use Rattle.row_lists.specs.Rows.{rowAt, rowsIn}
+use Rattle.row_lists.specs.Checks.{AcceptedRows}
+use Rattle.row_words.specs.Words.{wordsFilled}
 use Rattle.sum_rows.specs.declared.row_sum.RowSum.{RowSum}
-use Rattle.sum_rows.specs.Sums.{foldOutcome, wordsFilled, sumsFilled, countsFilled, handedBack}
-use Rattle.sum_rows.specs.Rows.{rowsIn, byteSums}
-use Rattle.merge.specs.Calls.{sumChecks, foldedSum, sumOutcome, afterChecks, wordsAfter, sumsAfter, countsAfter, representative, representativesOf, AcceptedRows}
-use Rattle.merge.proofs.FoldedRows.{fold-representatives, handed-renamed, length-renamed, sums-renamed, counts-renamed}
+use Rattle.sum_rows.specs.Sums.{zero, foldOutcome, sumsFilled, countsFilled, handedBack}
+use Rattle.sum_rows.specs.Rows.{byteSums}
+use Rattle.merge.specs.Calls.{sumChecks, foldedSum, sumOutcome, afterChecks, wordsAfter, sumsAfter, countsAfter, representative, representativesOf}
+use Rattle.row_words.proofs.PlacedRows.{filled-renamed}
+use Rattle.merge.proofs.FoldedRows.{fold-representatives, handed-renamed, length-renamed}
 
 -- the bytes of the representatives of k rows
 pub representatives-bytes : (g : Group) (words : List ℕ) (k : ℕ) → length (encodeAll (representativesOf g words k)) ≡ wordLength * k
@@ -36,10 +39,12 @@ module _ (g : Group) (words : List ℕ) (cs : List Float) (representatives : Lis
   checked = verdict (sumChecks g words cs (length representatives) (length sums) (length counts))
 
   -- a list after the checks
-  after-refused : {A : Type 0} (was filled : A) (why : Refusal) → checked ≡ refusalOf why → was ≡ afterChecks g words cs (length representatives) (length sums) (length counts) was filled
+  after-refused : {A : Type 0} (was filled : A) (why : Refusal) → checked ≡ refusalOf why
+      → was ≡ afterChecks g words cs (length representatives) (length sums) (length counts) was filled
   after-refused was filled why e = sym (ap (orElse (λ _. filled) was) e)
 
-  after-passed : {A : Type 0} (was filled : A) → checked ≡ answer tt → filled ≡ afterChecks g words cs (length representatives) (length sums) (length counts) was filled
+  after-passed : {A : Type 0} (was filled : A) → checked ≡ answer tt
+      → filled ≡ afterChecks g words cs (length representatives) (length sums) (length counts) was filled
   after-passed was filled e = sym (ap (orElse (λ _. filled) was) e)
 
   module _ (why : Refusal) (e : checked ≡ refusalOf why) where
@@ -85,12 +90,12 @@ module _ (g : Group) (words : List ℕ) (cs : List Float) (representatives : Lis
     unfolding sumsAfter
     folded-sums =
         ap (sumsFilled (length cs)) handed
-        ∙ sums-renamed bytesOf (length cs) (handedBack (foldedSum g words cs))
+        ∙ filled-renamed bytesOf zero (λ s. s .coefficient) (length cs) (handedBack (foldedSum g words cs))
         ∙ after-passed sums (sumsFilled (length cs) (handedBack (foldedSum g words cs))) e
 
     pub folded-counts : countsFilled (length cs) (handedBack folded) ≡ countsAfter g words cs representatives sums counts
     unfolding countsAfter
     folded-counts =
         ap (countsFilled (length cs)) handed
-        ∙ counts-renamed bytesOf (length cs) (handedBack (foldedSum g words cs))
+        ∙ filled-renamed bytesOf 0 (λ s. s .rows) (length cs) (handedBack (foldedSum g words cs))
         ∙ after-passed counts (countsFilled (length cs) (handedBack (foldedSum g words cs))) e

@@ -11,10 +11,9 @@ use Rattle.action.specs.Orbit.{isRepresentative}
 use Rattle.group.specs.declared.Group.{Group}
 use Rattle.group.specs.Value.{generatorsOf}
 use Rattle.keyed.specs.Keyed.{Rising, keyOf, contentsOf, leftFold}
-use Rattle.row_lists.specs.Rows.{zero, rowAt}
+use Rattle.row_lists.specs.Rows.{rowAt, rowsIn}
 use Rattle.sum_rows.specs.declared.row_sum.RowSum.{RowSum}
-use Rattle.sum_rows.specs.Sums.{finite}
-use Rattle.sum_rows.specs.Rows.{rowsIn}
+use Rattle.sum_rows.specs.Sums.{zero, finite}
 use Rattle.merge.specs.Calls.{representative, representativeRows, wordSums}
 
 -- the rows of the sum, each with its representative

@@ -3,7 +3,8 @@ ghost use mathlib.Core.Path.{_≡_};
 ghost use lib.ListN.{length};
 ghost use Rattle.elements.specs.HeldGroup.{encodeAll};
 ghost use Rattle.group.specs.Value.{AcceptedGroup};
-ghost use Rattle.merge.specs.Calls.{representativesOf, AcceptedRows};
+ghost use Rattle.row_lists.specs.Checks.{AcceptedRows};
+ghost use Rattle.merge.specs.Calls.{representativesOf};
 use group::Group;
 use pauli_word::WORD_BYTES;
 

@@ -1,18 +1,16 @@
 -- The numerators of a given group, by the calls: what they answer, that modes and digits may be reduced first, and the table by its places.
-use Prim.Native.Nat.{ℕ, zero, suc, _+_, _<_}
-use native.Mathlib.Nat.{add-zero, zero-add, le-of-suc-le-suc, not-suc-le-zero}
-use native.Mathlib.Omega.{arith}
+use Prim.Native.Nat.{ℕ, _<_}
 use mathlib.Core.Path.{_≡_, sym, _∙_, ap}
-use mathlib.Core.List.{List, [], _∷_, _++_, map}
+use mathlib.Core.List.{List, [], _∷_, _++_}
 use lib.IntN.{ℤ}
-use lib.ListN.{length, getD, length-map}
+use lib.ListN.{length, getD}
 use Rattle.outcome.specs.Outcome.{answer}
-use Rattle.action.specs.Lists.{from, below, Member}
+use Rattle.action.specs.Lists.{Member}
 use Rattle.action.specs.Permutation.{Generator}
 use Rattle.action.specs.Index.{orderOf, digits}
 use Rattle.action.specs.Sector.{numerator, reducedModes, reducedDigits}
 use Rattle.action.specs.Count.{allModes}
-use Rattle.action.proofs.Lists.{length-below}
+use Rattle.action.proofs.Below.{map-below-at, map-below-length}
 use Rattle.action.proofs.Index.{valid-positive}
 use Rattle.action.proofs.Theorems as Action
 use Rattle.group.specs.declared.Group.{Group}
@@ -24,18 +22,6 @@ use Rattle.momentum.proofs.Outcomes as Outcomes
 use Rattle.momentum.proofs.GivenGroups.{given-accepted, given-valid, given-length}
 use Rattle.momentum.proofs.Modes.{reducedModes-length, reducedDigits-length, reduced-listed, keeps-reduced, dropped-reduced}
 use Rattle.pauli_word.specs.Bytes.{lettersIn}
-
--- a list of what each number below n is put to, by its places
-
-map-from-at : (f : ℕ → ℕ) (n a i : ℕ) → i < n → getD (map f (from a n)) i 0 ≡ f (a + i)
-unfolding from
-map-from-at f zero a i h = absurd (not-suc-le-zero h)
-map-from-at f (suc n) a zero h = ap f (sym (add-zero a))
-map-from-at f (suc n) a (suc i) h = map-from-at f n (suc a) i (le-of-suc-le-suc h) ∙ ap f (omega arith)
-
-map-below-at : (f : ℕ → ℕ) (n i : ℕ) → i < n → getD (map f (below n)) i 0 ≡ f i
-unfolding below
-map-below-at f n i h = map-from-at f n 0 i h ∙ ap f (zero-add i)
 
 module _ (g : Group) where
   abbrev gs : List Generator
@@ -50,12 +36,12 @@ module _ (g : Group) where
 
     pub table-length : length table ≡ orderOf gs
     unfolding numerators
-    table-length = ap length (sym table-is) ∙ length-map (below (orderOf gs)) _ ∙ length-below (orderOf gs)
+    table-length = ap length (sym table-is) ∙ map-below-length (λ j. numerator gs ks (digits gs j)) (orderOf gs)
 
     pub table-at : (i : ℕ) → i < orderOf gs → getD table i 0 ≡ numerator gs ks (digits gs i)
     unfolding numerators
     table-at i h =
-        ap (λ (x : List ℕ). getD x i 0) (sym table-is) ∙ map-below-at (λ j. numerator gs ks (digits gs j)) (orderOf gs) i h
+        ap (λ (x : List ℕ). getD x i 0) (sym table-is) ∙ map-below-at (λ j. numerator gs ks (digits gs j)) (orderOf gs) i 0 h
 
   -- ---- a given group, with a mode for each generator
 

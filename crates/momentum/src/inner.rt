@@ -1,10 +1,13 @@
-// What the crates above need of sectors: the decision by its numbers. Whoever calls a function here owes its `requires`.
+// What the crates above need of sectors: the decision by its numbers, and the numerator of an index. Whoever calls a function here owes its `requires`.
 ghost use mathlib.Core.Path.{_≡_};
 ghost use lib.ListN.{length};
 ghost use Rattle.pauli_word.specs.Bytes.{AcceptedWord, lettersIn};
+ghost use Rattle.action.specs.Index.{digits};
+ghost use Rattle.action.specs.Sector.{numerator};
 ghost use Rattle.group.specs.Value.{generatorsOf, AcceptedGroup};
 ghost use Rattle.momentum.specs.Calls.{rowWord, decision};
 ghost use Rattle.momentum.specs.Parts.{placementOf, indexIn};
+use crate::phase;
 use crate::stabilizer;
 use group::Group;
 use pauli_word::WORD_BYTES;
@@ -56,5 +59,25 @@ pub fn placement_of(group: Group, word: &[u8], modes: &[i32]) -> Placed
         modulus,
         modes,
         word,
+    )
+}
+
+// The numerator of an index, for an accepted group and a mode for each generator.
+pub fn numerator_at(group: Group, modes: &[i32], index: usize) -> usize
+    requires { ⌜ AcceptedGroup group ⌝ }
+    requires { ⌜ length (now modes) ≡ group .generators ⌝ }
+    ensures { λ r. ⌜ r ≡ numerator (generatorsOf group) (now (modes .entry)) (digits (generatorsOf group) index) ⌝ }
+{
+    let modulus = group::inner::modulus_of(group);
+    let targets = group.targets;
+    let orders = group.orders;
+    phase::numerator_at(
+        &targets,
+        &orders,
+        group.generators,
+        group.sites,
+        modulus,
+        modes,
+        index,
     )
 }

@@ -1,7 +1,7 @@
 -- What the checks of a group value and a word come to, rule by rule, and what checks that pass have shown.
 -- What carries it: the first rule that is broken decides, and a pass breaks none.
 use Prim.Native.Nat.{ℕ, _<_, _≤_}
-use mathlib.Core.Path.{_≡_, refl, sym, ap, subst, _∙_}
+use mathlib.Core.Path.{_≡_, refl, ap, subst, _∙_}
 use mathlib.Core.Bool.{Bool, true, false, not, cond, and-eq-true-iff}
 use mathlib.Core.List.{List, [], _∷_}
 use lib.Dec.{ltb, eqb}
@@ -12,35 +12,15 @@ use Rattle.outcome.specs.declared.Refusal.the-variants as Refusal
 use Rattle.outcome.specs.declared.Verdict.{Verdict}
 use Rattle.outcome.specs.declared.Verdict.the-variants as Verdict
 use Rattle.outcome.specs.Outcome.{answer, refusalOf, outcomeOfVerdict, verdict}
-use Rattle.outcome.proofs.Outcomes.{refused-apart, verdict-fine, told-passes}
+use Rattle.outcome.proofs.Outcomes.{verdict-fine, told-passes}
 use Rattle.pauli_word.specs.Limits.{maxSites, planeLength, wordLength}
 use Rattle.pauli_word.specs.Bytes.{clearFrom, Bytes, AcceptedWord}
-use Rattle.pauli_word.specs.Calls.{siteCount, wordSize, bitAbove, wordChecks, clearAbove}
+use Rattle.pauli_word.specs.Calls.{siteCount, wordSize, bitAbove, clearAbove}
 use Rattle.permutation.specs.Limits.{maxGenerators, targetPlaces}
 use Rattle.group.specs.declared.Group.{Group}
 use Rattle.group.specs.Value.{isGroup, notAGroup, AcceptedGroup}
 use Rattle.group.proofs.Accepted.{accepted-by}
 use Rattle.orbit.specs.Calls.{otherSites, wordCallChecks}
-
--- ---- the word's own rules, where its site count and its length are known: 17 is left
-
-module _ (n : ℕ) (bytes : List ℕ) (short : n ≤ maxSites) (long : length bytes ≡ wordLength) where
-  word-left : verdict (wordChecks n bytes) ≡ cond (not (clearAbove n bytes)) (refusalOf Refusal.BitAboveSites) (answer tt)
-  word-left = simp (le-ltb maxSites n short, eq-eqb (length bytes) wordLength long)
-
-  pub word-clear : answer tt ≡ verdict (wordChecks n bytes) → clearAbove n bytes ≡ true
-  word-clear e = go (clearAbove n bytes) (e ∙ word-left)
-    where
-      go : (b : Bool) → answer (tt {0}) ≡ cond (not b) (refusalOf Refusal.BitAboveSites) (answer tt) → b ≡ true
-      go true k = refl
-      go false k = absurd (refused-apart _ _ tt (sym k))
-
-  pub word-above : (why : Refusal) → refusalOf why ≡ verdict (wordChecks n bytes) → clearAbove n bytes ≡ false
-  word-above why e = go (clearAbove n bytes) (e ∙ word-left)
-    where
-      go : (b : Bool) → refusalOf why ≡ cond (not b) (refusalOf Refusal.BitAboveSites) (answer (tt {0})) → b ≡ false
-      go true k = absurd (refused-apart _ _ tt k)
-      go false k = refl
 
 -- ---- 1, 14, 15, 16, 17
 

@@ -151,3 +151,5 @@ number-small Refusal.TooManyLetters = omega arith
 number-small (Refusal.NotALetter a) = omega arith
 number-small Refusal.SheetLength = omega arith
 number-small Refusal.LineForm = omega arith
+number-small Refusal.PhaseModulus = omega arith
+number-small (Refusal.CoefficientRange a) = omega arith

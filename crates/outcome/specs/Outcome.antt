@@ -49,6 +49,8 @@ ruleNumber Refusal.TooManyLetters = 28
 ruleNumber (Refusal.NotALetter at) = 29
 ruleNumber Refusal.SheetLength = 30
 ruleNumber Refusal.LineForm = 31
+ruleNumber Refusal.PhaseModulus = 32
+ruleNumber (Refusal.CoefficientRange row) = 33
 
 -- the values that it names
 abbrev pub ruleValues : Refusal → List ℕ
@@ -84,6 +86,8 @@ ruleValues Refusal.TooManyLetters = []
 ruleValues (Refusal.NotALetter at) = at ∷ []
 ruleValues Refusal.SheetLength = []
 ruleValues Refusal.LineForm = []
+ruleValues Refusal.PhaseModulus = []
+ruleValues (Refusal.CoefficientRange row) = row ∷ []
 
 abbrev pub refusalOf : {A : Type 0} → Refusal → Outcome A
 refusalOf why = refused (ruleNumber why) (ruleValues why)

@@ -69,6 +69,10 @@ pub enum Refusal {
     SheetLength,
     // 31: a sheet line of another form.
     LineForm,
+    // 32: a phase modulus that does not divide the entries of a phase table.
+    PhaseModulus,
+    // 33: a row whose whole coefficient is out of its range.
+    CoefficientRange(usize),
 }
 
 // What checks come to, and a call whose answer stands beside it or in a lent list.
@@ -120,5 +124,7 @@ pub fn rule_number(why: Refusal) -> usize
         Refusal::NotALetter(_) => 29,
         Refusal::SheetLength => 30,
         Refusal::LineForm => 31,
+        Refusal::PhaseModulus => 32,
+        Refusal::CoefficientRange(_) => 33,
     }
 }

@@ -21,8 +21,9 @@ use Rattle.pauli_word.specs.Calls.{orderOfBits, orderOfWords}
 use Rattle.pauli_word.proofs.Bits.{odd-cases, lowBits-length, lowBits-at, number-lowBits}
 use Rattle.pauli_word.proofs.WordOrder.{orElseBy, order-refl, order-append}
 use Rattle.action.specs.Lists.{below}
+use Rattle.action.proofs.Below.{map-below-at, map-below-length, map-below-cong}
 use Rattle.packed.specs.Packed.{wordBits, bitAt, bitOf, lettersBy, LessAt, Compared}
-use Rattle.packed.proofs.Packing.{map-below-at, map-below-length, map-below-cong, xBits-lettersBy, zBits-lettersBy, bit-zero, bitOf-word}
+use Rattle.packed.proofs.Packing.{xBits-lettersBy, zBits-lettersBy, bit-zero, bitOf-word}
 use Rattle.packed.proofs.Shifts.{bit-xor}
 
 -- ---- the exclusive or of two bits

@@ -4,53 +4,23 @@ use Prim.Native.Nat.{ℕ, zero, suc, _+_, _-_, _*_, _/_, _%_, _^_, _<_, _≤_}
 use mathlib.Core.Path.{_≡_, refl, sym, ap, ap₂, subst, _∙_}
 use mathlib.Core.Bool.{Bool, true, false, false≢true}
 use mathlib.Core.List.{List, [], _∷_, map, map-map}
-use native.Mathlib.Nat.{add-zero, zero-add, le-of-suc-le-suc, not-suc-le-zero, zero-div}
+use native.Mathlib.Nat.{add-zero, zero-add, zero-div}
 use native.Mathlib.Decide.{decLe, ℕ-discrete}
 use native.Mathlib.Omega.{arith}
 use lib.Dec.{eqb}
 use lib.Arith.{digits-lt}
 use lib.Bits.{bitOr, or-shifted-r}
 use lib.Pow.{pow-add, shl-exact, shr-shr, high, low, field, mod-mod-pow}
-use lib.ListN.{length, getD, set, take, drop, length-map, length-set, length-drop, List·getD-eq-default}
-use lib.Seq.{ext-getD, getD-set-same, getD-set-other, getD-drop, length-take-le}
+use lib.ListN.{length, getD, set, take, drop, length-set, length-drop, List·getD-eq-default}
+use lib.Seq.{getD-set-same, getD-set-other, getD-drop, length-take-le}
 use Rattle.pauli_word.specs.Word.{I, Word, xBit, zBit, letterOf}
 use Rattle.pauli_word.specs.Limits.{planeLength, maxSites, wordLength}
 use Rattle.pauli_word.specs.Bytes.{odd, planeBits, byteValues, clear, clearFrom, Bytes, AcceptedWord, lettersIn, bytesOf}
 use Rattle.pauli_word.proofs.Planes.{planeBits-at, planeBits-past}
 use Rattle.pauli_word.proofs.Words.{xBit-letterOf, zBit-letterOf, decode-length, decode-at, encode-decode}
-use Rattle.action.specs.Lists.{from, below}
-use Rattle.action.proofs.Lists.{length-below}
+use Rattle.action.specs.Lists.{below}
+use Rattle.action.proofs.Below.{map-below-at, map-below-length, map-below-cong, map-below-of}
 use Rattle.packed.specs.Packed.{wordBits, bitAt, bitOf, Clear, lettersBy, lettersAt}
-
--- ---- a list of what each number below n is put to
-
-module _ {A : Type 0} where
-  map-from-at : (f : ℕ → A) (n a i : ℕ) (d : A) → i < n → getD (map f (from a n)) i d ≡ f (a + i)
-  unfolding from
-  map-from-at f zero a i d h = absurd (not-suc-le-zero h)
-  map-from-at f (suc n) a zero d h = ap f (sym (add-zero a))
-  map-from-at f (suc n) a (suc i) d h = map-from-at f n (suc a) i d (le-of-suc-le-suc h) ∙ ap f (omega arith)
-
-  -- what stands at a place
-  pub map-below-at : (f : ℕ → A) (n i : ℕ) (d : A) → i < n → getD (map f (below n)) i d ≡ f i
-  unfolding below
-  map-below-at f n i d h = map-from-at f n 0 i d h ∙ ap f (zero-add i)
-
-  -- how many there are
-  pub map-below-length : (f : ℕ → A) (n : ℕ) → length (map f (below n)) ≡ n
-  map-below-length f n = length-map (below n) f ∙ length-below n
-
-  -- functions that agree below n give the same list
-  pub map-below-cong : (f g : ℕ → A) (n : ℕ) (d : A) → ((q : ℕ) → q < n → f q ≡ g q) → map f (below n) ≡ map g (below n)
-  map-below-cong f g n d h =
-      ext-getD d (map f (below n)) (map g (below n)) (map-below-length f n ∙ sym (map-below-length g n))
-      (λ q l. let k : q < n = rw map-below-length at l in map-below-at f n q d k ∙ h q k ∙ sym (map-below-at g n q d k))
-
-  -- a list of n members is told by its places
-  pub map-below-of : (f : ℕ → A) (n : ℕ) (d : A) (xs : List A) → length xs ≡ n → ((q : ℕ) → q < n → getD xs q d ≡ f q) → xs ≡ map f (below n)
-  map-below-of f n d xs e h =
-      ext-getD d xs (map f (below n)) (e ∙ sym (map-below-length f n))
-      (λ q l. let k : q < n = rw e at l in h q k ∙ sym (map-below-at f n q d k))
 
 -- ---- a word by its X and Z bits at each site
 

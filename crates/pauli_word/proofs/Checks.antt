@@ -1,7 +1,7 @@
 -- What the checks of a word come to, rule by rule, and that a word which passes them is accepted.
 use Prim.Native.Nat.{ℕ, _<_, _≤_}
-use mathlib.Core.Path.{_≡_, ap, _∙_}
-use mathlib.Core.Bool.{true, false, and-eq-true-iff}
+use mathlib.Core.Path.{_≡_, refl, sym, ap, _∙_}
+use mathlib.Core.Bool.{Bool, true, false, not, cond, and-eq-true-iff}
 use mathlib.Core.List.{List, [], _∷_}
 use lib.Dec.{eqb}
 use lib.ListN.{length, take, drop}
@@ -12,7 +12,7 @@ use Rattle.pauli_word.specs.Limits.{maxSites, planeLength, wordLength}
 use Rattle.outcome.specs.Outcome.{Outcome, answer, verdict, given, refusalOf}
 use Rattle.pauli_word.specs.Bytes.{clearFrom, Bytes, AcceptedWord}
 use Rattle.pauli_word.specs.Calls.{wordChecks, clearAbove, siteCount, wordSize, bitAbove, compareChecks}
-use Rattle.outcome.proofs.Outcomes.{verdict-fine, verdict-append}
+use Rattle.outcome.proofs.Outcomes.{refused-apart, verdict-fine, verdict-append}
 
 module _ (n : ℕ) (bytes : List ℕ) where
   pub too-many-sites : maxSites < n → verdict (wordChecks n bytes) ≡ refusalOf Refusal.TooManySites
@@ -33,6 +33,26 @@ module _ (n : ℕ) (bytes : List ℕ) where
       pub passes : clearFrom n (take planeLength bytes) ≡ true → clearFrom n (drop planeLength bytes) ≡ true
           → verdict (wordChecks n bytes) ≡ answer tt
       passes x z = simp (le-ltb maxSites n few, eq-eqb (length bytes) wordLength long, x, z)
+
+-- ---- where the site count and the length are known, 17 is left
+
+module _ (n : ℕ) (bytes : List ℕ) (short : n ≤ maxSites) (long : length bytes ≡ wordLength) where
+  word-left : verdict (wordChecks n bytes) ≡ cond (not (clearAbove n bytes)) (refusalOf Refusal.BitAboveSites) (answer tt)
+  word-left = simp (le-ltb maxSites n short, eq-eqb (length bytes) wordLength long)
+
+  pub word-clear : answer tt ≡ verdict (wordChecks n bytes) → clearAbove n bytes ≡ true
+  word-clear e = go (clearAbove n bytes) (e ∙ word-left)
+    where
+      go : (b : Bool) → answer (tt {0}) ≡ cond (not b) (refusalOf Refusal.BitAboveSites) (answer tt) → b ≡ true
+      go true k = refl
+      go false k = absurd (refused-apart _ _ tt (sym k))
+
+  pub word-above : (why : Refusal) → refusalOf why ≡ verdict (wordChecks n bytes) → clearAbove n bytes ≡ false
+  word-above why e = go (clearAbove n bytes) (e ∙ word-left)
+    where
+      go : (b : Bool) → refusalOf why ≡ cond (not b) (refusalOf Refusal.BitAboveSites) (answer (tt {0})) → b ≡ false
+      go true k = absurd (refused-apart _ _ tt k)
+      go false k = refl
 
 -- ---- a word that passes is accepted
 

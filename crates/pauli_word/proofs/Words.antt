@@ -308,7 +308,7 @@ encode-next m w a h = ap₂ _++_ (plane xBit (xPlane m w)) (plane zBit (zPlane m
 
 -- ---- one letter set
 
-map-set : {A B : Type 0} (f : A → B) (xs : List A) (i : ℕ) (a : A) → map f (set xs i a) ≡ set (map f xs) i (f a)
+pub map-set : {A B : Type 0} (f : A → B) (xs : List A) (i : ℕ) (a : A) → map f (set xs i a) ≡ set (map f xs) i (f a)
 map-set f [] i a = refl
 map-set f (x ∷ xs) zero a = refl
 map-set f (x ∷ xs) (suc i) a = ap (λ (t : List _). f x ∷ t) (map-set f xs i a)

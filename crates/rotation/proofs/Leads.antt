@@ -10,9 +10,10 @@ use Rattle.pauli_word.proofs.Words.{xBit-letterOf}
 use Rattle.action.specs.Lists.{below}
 use Rattle.action.specs.Permutation.{Generator, Valid}
 use Rattle.action.specs.Orbit.{reach, least, forward, fixing}
+use Rattle.action.proofs.Below.{map-below-cong}
 use Rattle.action.proofs.Canonical.{forward-reaches}
 use Rattle.packed.specs.Packed.{bitOf, lettersBy, lettersAt}
-use Rattle.packed.proofs.Packing.{map-below-cong, lettersBy-length, nothing-clear}
+use Rattle.packed.proofs.Packing.{lettersBy-length, nothing-clear}
 use Rattle.rotation.specs.Rotation.{xPart, Planes}
 use Rattle.rotation.proofs.Moved.{nothing-bit}
 use Rattle.rotation.proofs.XPlane.{unique-x-forward, unique-x-fixing}

@@ -14,8 +14,9 @@ use Rattle.action.specs.Permutation.{Generator, Valid}
 use Rattle.action.specs.Index.{orderOf}
 use Rattle.action.specs.Orbit.{move, reach, least, forward}
 use Rattle.action.specs.Lattice.{shifted, shift, shifts}
+use Rattle.action.proofs.Below.{map-below-cong}
 use Rattle.packed.specs.Packed.{lettersBy, rotated, keepAt, highAt}
-use Rattle.packed.proofs.Packing.{map-below-cong, lettersBy-cong}
+use Rattle.packed.proofs.Packing.{lettersBy-cong}
 use Rattle.packed.proofs.Masks.{turned, turnedBoth, turned-at, two-masks}
 use Rattle.rotation.specs.Rotation.{rotation, xPart}
 use Rattle.rotation.proofs.Rotations.{letters-rotation}

@@ -28,9 +28,10 @@ use Rattle.pauli_word.specs.Word.{I, Word, letterOf}
 use Rattle.action.specs.Lists.{below}
 use Rattle.action.specs.Permutation.{target, Permutes}
 use Rattle.action.specs.Orbit.{move, moves}
+use Rattle.action.proofs.Below.{map-below-at, map-below-length}
 use Rattle.action.proofs.Move.{move-length, move-at}
 use Rattle.packed.specs.Packed.{rotated, lettersBy}
-use Rattle.packed.proofs.Packing.{map-below-at, map-below-length, lettersBy-at, lettersBy-length}
+use Rattle.packed.proofs.Packing.{lettersBy-at, lettersBy-length}
 use Rattle.rotation.specs.Rotation.{rotation}
 
 -- ---- lists made of the numbers below n

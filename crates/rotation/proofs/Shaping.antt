@@ -13,11 +13,11 @@ use lib.Seq.{getD-set-same, getD-set-other, length-take-le}
 use borrow.Author.Count.{below-more}
 use borrow.Author.Tests.{ltb-true, ltb-false}
 use Rattle.pauli_word.specs.Limits.{maxSites}
+use Rattle.action.proofs.Below.{map-below-of}
 use Rattle.permutation.specs.Limits.{maxGenerators, targetPlaces}
 use Rattle.permutation.specs.Generators.{rowAt}
 use Rattle.elements.proofs.Steps.{row-part}
 use Rattle.packed.specs.Packed.{rotated}
-use Rattle.packed.proofs.Packing.{map-below-of}
 use Rattle.rotation.specs.Rotation.{rotation, Rotates}
 
 -- a number is below another or not

@@ -38,3 +38,7 @@ module _ {A : Type 0} (z : A) (list : List A) (from : ℕ) where
   zeroed-end i h k =
       let e : i ≡ length list = omega arith in
       rw (drop-of-length-le list {i = i} h, append-nil, e)
+
+-- a list filled from its start is z alone
+pub filled-all : {A : Type 0} (z : A) (list : List A) {n : ℕ} → length list ≡ n → take 0 list ++ replicate (length list - 0) z ≡ replicate n z
+filled-all z list {n} e = let long : length list - 0 ≡ n = omega arith in ap (λ (k : ℕ). replicate k z) long

@@ -1,15 +1,17 @@
 -- Rows of a list: the part that a row is, and what is at each row once one is written over or two are exchanged.
-use Prim.Native.Nat.{ℕ, suc, _+_, _-_, _*_, _≤_, _<_}
+use Prim.Native.Nat.{ℕ, suc, _+_, _-_, _*_, _≤_}
 use mathlib.Core.Path.{_≡_, sym, ap, ap₂, _∙_}
 use mathlib.Core.Logic.{_≢_}
 use mathlib.Core.List.{List, _++_, append-assoc}
 use native.Mathlib.Decide.{ℕ-discrete}
 use native.Mathlib.Nat.{add-sub-cancel-left}
 use native.Mathlib.Omega.{arith, ne-cases}
-use lib.ListN.{length, getD, set, take, drop, length-append, length-take, length-drop, length-set, take-append-drop}
-use lib.Seq.{length-take-le, take-at, drop-at, drop-drop, drop-append-le, take-append-le, getD-set-same, getD-set-other}
+use lib.ListN.{length, take, drop, length-append, length-take, length-drop, take-append-drop}
+use lib.Seq.{length-take-le, take-at, drop-at, drop-drop, drop-append-le, take-append-le}
 use Rattle.pauli_word.specs.Limits.{wordLength}
-use Rattle.row_lists.specs.Rows.{rowAt, withRow, rowsSwapped, swapped}
+use Rattle.pauli_word.specs.Bytes.{Bytes}
+use Rattle.pauli_word.proofs.Words.{bytes-take, bytes-drop}
+use Rattle.row_lists.specs.Rows.{rowAt, withRow, rowsSwapped}
 
 -- ---- m members from place s on, written over
 
@@ -84,6 +86,18 @@ module _ (words : List ℕ) (row : ℕ) (inside : wordLength * row + wordLength 
         (λ h. over-before wordLength (wordLength * row) bytes words long inside wordLength (wordLength * j) (omega arith))
         (λ h. ap (take wordLength) (over-after wordLength (wordLength * row) bytes words long inside (wordLength * j) (omega arith)))
 
+-- the bytes of a word
+abbrev pub RowBytes : List ℕ → Type 0
+RowBytes b = (length b ≡ wordLength) × Bytes b
+
+front-bytes : (words : List ℕ) → Bytes words → wordLength ≤ length words → RowBytes (take wordLength words)
+front-bytes words small l = (length-take-le wordLength words l, bytes-take wordLength words small)
+
+pub row-bytes : (words : List ℕ) (i : ℕ) → Bytes words → wordLength * i + wordLength ≤ length words → RowBytes (rowAt words i)
+unfolding rowAt
+row-bytes words i small l =
+    front-bytes (drop (wordLength * i) words) (bytes-drop (wordLength * i) words small) (omega (arith, length-drop (wordLength * i) words))
+
 -- ---- two exchanged
 
 -- what was at a is at b, what was at b is at a, and the others stay
@@ -103,21 +117,6 @@ written-exchanged before once after a b first firstOthers last lastOthers =
     here : Dec (a ≡ b) → after a ≡ before b
     here (yes e) = ap after e ∙ last ∙ ap before e
     here (no n) = lastOthers a n ∙ first
-
-module _ {A : Type 0} (d : A) (xs : List A) (a b : ℕ) where
-  pub swapped-length : length (swapped d xs a b) ≡ length xs
-  unfolding swapped
-  swapped-length = length-set (set xs a (getD xs b d)) b (getD xs a d) ∙ length-set xs a (getD xs b d)
-
-  pub swapped-exchanged : a < length xs → b < length xs → Exchanged (λ j. getD xs j d) (λ j. getD (swapped d xs a b) j d) a b
-  unfolding swapped
-  swapped-exchanged h k =
-      let once : List A = set xs a (getD xs b d) in
-      written-exchanged (λ j. getD xs j d) (λ j. getD once j d) (λ j. getD (swapped d xs a b) j d) a b
-      (getD-set-same xs a (getD xs b d) d h)
-      (λ j n. getD-set-other xs a j (getD xs b d) d n)
-      (getD-set-same once b (getD xs a d) d (omega (arith, length-set xs a (getD xs b d))))
-      (λ j n. getD-set-other once b j (getD xs a d) d n)
 
 -- rows read, and written over one after the other
 pub rows-swapped :

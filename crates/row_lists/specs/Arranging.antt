@@ -5,7 +5,6 @@ use mathlib.Core.Bool.{cond}
 use mathlib.Core.List.{List}
 use lib.Dec.{eqb}
 use lib.ListN.{length, getD, set}
-use lib.Ieee.{Float, nan}
 use Rattle.row_lists.specs.Rows.{maxRows, rowAt}
 
 -- the first `used` positions are different rows, of as many as there are
@@ -33,11 +32,7 @@ toldOwners positions owners k from =
     let owner = getD owners k 0 in
     cond (eqb (getD positions owner 0) k) (set owners from owner) owners
 
--- row j of the lists now is the row at position j of the lists before, for every position
-pub record Placed (ps : List ℕ) (words : List ℕ) (sums : List Float) (counts : List ℕ) (words′ : List ℕ) (sums′ : List Float) (counts′ : List ℕ) : Type 0 where
-  pub wordsLong : length words′ ≡ length words
-  pub sumsLong : length sums′ ≡ length sums
-  pub countsLong : length counts′ ≡ length counts
+-- row j of the list now is the row at position j of the list before, for every position
+pub record Placed (ps words words′ : List ℕ) : Type 0 where
+  pub long : length words′ ≡ length words
   pub word : (j : ℕ) → j < length ps → rowAt words′ j ≡ rowAt words (getD ps j 0)
-  pub sum : (j : ℕ) → j < length ps → getD sums′ j nan ≡ getD sums (getD ps j 0) nan
-  pub count : (j : ℕ) → j < length ps → getD counts′ j 0 ≡ getD counts (getD ps j 0) 0

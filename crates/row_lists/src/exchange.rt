@@ -2,9 +2,8 @@
 ghost use mathlib.Core.Path.{_≡_};
 ghost use Prim.Native.Nat.{_+_, _*_, _≤_, _<_};
 ghost use lib.ListN.{length, getD};
-ghost use lib.Ieee.{nan};
 ghost use Rattle.pauli_word.specs.Limits.{wordLength};
-ghost use Rattle.row_lists.specs.Rows.{maxRows, rowAt, withRow, rowsSwapped, swapped};
+ghost use Rattle.row_lists.specs.Rows.{maxRows, rowAt, withRow, rowsSwapped};
 ghost use Rattle.row_lists.specs.Arranging.{toldPositions, toldOwners};
 use pauli_word::WORD_BYTES;
 
@@ -43,24 +42,6 @@ pub fn swap_words(words: &mut [u8], a: usize, b: usize)
     put_row(words, b, &left);
 }
 
-// Exchanges two coefficients, and two counts.
-pub fn swap_sums(sums: &mut [f64], counts: &mut [u32], a: usize, b: usize)
-    requires { ⌜ a < length (now sums) ⌝ }
-    requires { ⌜ b < length (now sums) ⌝ }
-    requires { ⌜ length (now counts) ≡ length (now sums) ⌝ }
-    ensures sums { λ _. ⌜ now (sums .exit) ≡ swapped nan (now (sums .entry)) a b ⌝ }
-    ensures counts { λ _. ⌜ now (counts .exit) ≡ swapped 0 (now (counts .entry)) a b ⌝ }
-{
-    let x = sums[a];
-    let y = sums[b];
-    sums[a] = y;
-    sums[b] = x;
-    let m = counts[a];
-    let n = counts[b];
-    counts[a] = n;
-    counts[b] = m;
-}
-
 // Tells the place that the row which stood at k is for, if there is one, that this row stands at `from` now.
 pub fn tell_owner(positions: &mut [u16], owners: &mut [u16], k: usize, from: usize)
     requires { ⌜ length (now positions) ≡ maxRows ⌝ }
@@ -80,30 +61,19 @@ pub fn tell_owner(positions: &mut [u16], owners: &mut [u16], k: usize, from: usi
 }
 
 // Puts the row that is for place k there, and the row that stood there where the other was.
-pub fn place_row(
-    positions: &mut [u16],
-    owners: &mut [u16],
-    k: usize,
-    words: &mut [u8],
-    sums: &mut [f64],
-    counts: &mut [u32],
-)
+pub fn place_row(positions: &mut [u16], owners: &mut [u16], k: usize, words: &mut [u8])
     requires { ⌜ length (now positions) ≡ maxRows ⌝ }
     requires { ⌜ length (now owners) ≡ maxRows ⌝ }
-    requires { ⌜ length (now sums) ≤ maxRows ⌝ }
-    requires { ⌜ k < length (now sums) ⌝ }
-    requires { ⌜ getD (now positions) k 0 < length (now sums) ⌝ }
+    requires { ⌜ k < maxRows ⌝ }
+    requires { ⌜ getD (now positions) k 0 < maxRows ⌝ }
     requires { ⌜ getD (now owners) k 0 < maxRows ⌝ }
-    requires { ⌜ length (now words) ≡ wordLength * length (now sums) ⌝ }
-    requires { ⌜ length (now counts) ≡ length (now sums) ⌝ }
+    requires { ⌜ wordLength * k + wordLength ≤ length (now words) ⌝ }
+    requires { ⌜ wordLength * getD (now positions) k 0 + wordLength ≤ length (now words) ⌝ }
     ensures positions { λ _. ⌜ now (positions .exit) ≡ toldPositions (now (positions .entry)) (now (owners .entry)) k (getD (now (positions .entry)) k 0) ⌝ }
     ensures owners { λ _. ⌜ now (owners .exit) ≡ toldOwners (now (positions .entry)) (now (owners .entry)) k (getD (now (positions .entry)) k 0) ⌝ }
     ensures words { λ _. ⌜ now (words .exit) ≡ rowsSwapped (now (words .entry)) k (getD (now (positions .entry)) k 0) ⌝ }
-    ensures sums { λ _. ⌜ now (sums .exit) ≡ swapped nan (now (sums .entry)) k (getD (now (positions .entry)) k 0) ⌝ }
-    ensures counts { λ _. ⌜ now (counts .exit) ≡ swapped 0 (now (counts .entry)) k (getD (now (positions .entry)) k 0) ⌝ }
 {
     let from = positions[k] as usize;
     swap_words(words, k, from);
-    swap_sums(sums, counts, k, from);
     tell_owner(positions, owners, k, from);
 }

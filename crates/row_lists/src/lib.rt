@@ -1,5 +1,6 @@
-// The three lists of a sum, row by row: words, coefficients and counts. Rows are put into their places where they stand, and zeros come after
-// the last. For the crates above: whoever calls a function here owes its `requires`.
+// Words in one list, row by row. What is checked of the lists of a sum whatever its contents are; and rows put into their places where they
+// stand, with zeros after the last. For the crates above: whoever calls a function here owes its `requires`.
+pub mod checks;
 pub mod exchange;
 pub mod places;
 pub mod zeros;

@@ -1,10 +1,9 @@
 // Rows put into their places. Whoever calls a function here owes its `requires`.
 ghost use mathlib.Core.Path.{_≡_};
-ghost use Prim.Native.Nat.{ℕ, _+_, _*_, _<_};
+ghost use Prim.Native.Nat.{ℕ, _/_, _<_};
 ghost use lib.ListN.{length, take, getD};
-ghost use lib.Ieee.{nan};
 ghost use Rattle.pauli_word.specs.Limits.{wordLength};
-ghost use Rattle.row_lists.specs.Rows.{maxRows, zero, arrangedWords, arranged};
+ghost use Rattle.row_lists.specs.Rows.{maxRows, arrangedWords};
 ghost use Rattle.row_lists.specs.Arranging.{Positions, Owned, Placed};
 use crate::MAX_ROWS;
 use crate::exchange;
@@ -27,43 +26,24 @@ pub fn own(positions: &[u16], used: usize, owners: &mut [u16])
 }
 
 // Puts the rows at the first `used` positions into rows 0, 1, ..; what stands after them then is of no account. At most one exchange a place.
-pub fn place_rows(
-    positions: &mut [u16],
-    used: usize,
-    words: &mut [u8],
-    sums: &mut [f64],
-    counts: &mut [u32],
-)
-    requires { ⌜ Positions (now positions) used (length (now sums)) ⌝ }
-    requires { ⌜ length (now words) ≡ wordLength * length (now sums) ⌝ }
-    requires { ⌜ length (now counts) ≡ length (now sums) ⌝ }
-    ensures placed { λ _. ⌜ Placed (take used (now (positions .entry))) (now (words .entry)) (now (sums .entry)) (now (counts .entry)) (now (words .exit)) (now (sums .exit)) (now (counts .exit)) ⌝ }
+pub fn place_rows(positions: &mut [u16], used: usize, words: &mut [u8])
+    requires { ⌜ Positions (now positions) used (length (now words) / wordLength) ⌝ }
+    ensures placed { λ _. ⌜ Placed (take used (now (positions .entry))) (now (words .entry)) (now (words .exit)) ⌝ }
 {
     let mut owners = [0u16; MAX_ROWS];
     own(positions, used, &mut owners);
     let mut k = 0;
     while k < used {
-        exchange::place_row(positions, &mut owners, k, words, sums, counts);
+        exchange::place_row(positions, &mut owners, k, words);
         k += 1;
     }
 }
 
 // The rows at the first `used` positions, in their order, and zeros after them.
-pub fn arrange(
-    positions: &mut [u16],
-    used: usize,
-    words: &mut [u8],
-    sums: &mut [f64],
-    counts: &mut [u32],
-)
-    requires { ⌜ Positions (now positions) used (length (now sums)) ⌝ }
-    requires { ⌜ length (now words) ≡ wordLength * length (now sums) ⌝ }
-    requires { ⌜ length (now counts) ≡ length (now sums) ⌝ }
-    ensures words { λ _. ⌜ now (words .exit) ≡ arrangedWords (now (words .entry)) (take used (now (positions .entry))) ⌝ }
-    ensures sums { λ _. ⌜ now (sums .exit) ≡ arranged nan zero (now (sums .entry)) (take used (now (positions .entry))) ⌝ }
-    ensures counts { λ _. ⌜ now (counts .exit) ≡ arranged 0 0 (now (counts .entry)) (take used (now (positions .entry))) ⌝ }
+pub fn arrange(positions: &mut [u16], used: usize, words: &mut [u8])
+    requires { ⌜ Positions (now positions) used (length (now words) / wordLength) ⌝ }
+    ensures { λ _. ⌜ now (words .exit) ≡ arrangedWords (now (words .entry)) (take used (now (positions .entry))) ⌝ }
 {
-    place_rows(positions, used, words, sums, counts);
+    place_rows(positions, used, words);
     zeros::bytes_from(words, WORD_BYTES * used);
-    zeros::sums_from(sums, counts, used);
 }

@@ -1,9 +1,5 @@
 -- Laws of sums in lists.
 pub mod Finite
 pub mod RowSums
-pub mod RowKeys
-pub mod Searching
-pub mod Inserting
-pub mod RowMerging
-pub mod Folding
-pub mod Filled
+pub mod RowAdding
+pub mod Folded

@@ -1,4 +1,4 @@
 -- What the contracts of this crate say.
 pub mod Sums
 pub mod Rows
-pub mod Held
+pub mod Added

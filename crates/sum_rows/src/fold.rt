@@ -4,11 +4,13 @@ ghost use Prim.Native.Nat.{_*_, _≤_};
 ghost use lib.ListN.{length};
 ghost use Rattle.outcome.specs.Outcome.{outcomeOfNumber, onAnswer};
 ghost use Rattle.pauli_word.specs.Limits.{wordLength};
-ghost use Rattle.row_lists.specs.Rows.{maxRows};
-ghost use Rattle.sum_rows.specs.Sums.{foldOutcome, wordsFilled, sumsFilled, countsFilled, handedBack};
-ghost use Rattle.sum_rows.specs.Rows.{rowsIn, byteSums};
-use crate::merging;
+ghost use Rattle.row_lists.specs.Rows.{maxRows, rowsIn};
+ghost use Rattle.row_words.specs.Words.{wordsFilled};
+ghost use Rattle.sum_rows.specs.Sums.{foldOutcome, sumsFilled, countsFilled, handedBack};
+ghost use Rattle.sum_rows.specs.Rows.{byteSums};
+use crate::adding;
 use outcome::Number;
+use outcome::Verdict;
 use row_lists::MAX_ROWS;
 
 // Folds the rows of a sum where they stand: each word once, in rising order, with its coefficient and how many rows it has, and zeros after the
@@ -28,15 +30,14 @@ pub fn fold_rows(
     ensures sums { λ _. ⌜ now (sums .exit) ≡ sumsFilled (length (now (coefficients .entry))) (handedBack (foldOutcome byteSums (rowsIn (now (words .entry)) (now (coefficients .entry))))) ⌝ }
     ensures counts { λ _. ⌜ now (counts .exit) ≡ countsFilled (length (now (coefficients .entry))) (handedBack (foldOutcome byteSums (rowsIn (now (words .entry)) (now (coefficients .entry))))) ⌝ }
 {
-    let mut positions = [0u16; MAX_ROWS];
-    match merging::merge_rows(words, coefficients, &mut positions, sums, counts) {
-        Number::Value(used) => {
-            row_lists::places::arrange(&mut positions, used, words, sums, counts);
-            Number::Value(used)
-        }
-        Number::Refused(why) => {
+    let mut places = [0u16; MAX_ROWS];
+    let used = row_words::fold::fold_words(words, coefficients.len(), &mut places);
+    adding::clear(sums, counts);
+    match adding::add_rows(coefficients, &places, sums, counts) {
+        Verdict::Accepted => Number::Value(used),
+        Verdict::Refused(why) => {
             row_lists::zeros::bytes_from(words, 0);
-            row_lists::zeros::sums_from(sums, counts, 0);
+            adding::clear(sums, counts);
             Number::Refused(why)
         }
     }

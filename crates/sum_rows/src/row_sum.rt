@@ -2,7 +2,7 @@
 ghost use mathlib.Core.Path.{_≡_};
 ghost use Prim.Native.Nat.{_<_};
 ghost use Rattle.row_lists.specs.Rows.{maxRows};
-ghost use Rattle.sum_rows.specs.Sums.{finite, addRow, noRows};
+ghost use Rattle.sum_rows.specs.Sums.{finite, addRow};
 
 // What a word's rows come to: the running sum of their coefficients, and how many they are.
 pub struct RowSum {
@@ -11,16 +11,6 @@ pub struct RowSum {
 }
 
 impl RowSum {
-    // No rows: the sum starts at 0.0.
-    pub fn new() -> RowSum
-        ensures { λ r. ⌜ r ≡ noRows ⌝ }
-    {
-        RowSum {
-            coefficient: 0.0,
-            rows: 0,
-        }
-    }
-
     // One row more: its coefficient is added, rounded once.
     pub fn merged(self, coefficient: f64) -> RowSum
         requires { ⌜ self .rows < maxRows ⌝ }

@@ -4,15 +4,21 @@ use mathlib.Core.Path.{_≡_, sym, ap, _∙_}
 use mathlib.Core.List.{List}
 use denote.Ref.{now}
 use lib.ListN.{length}
+use lib.Ieee.{Float}
 use borrow.Author.Needs.{needs}
 use Rattle.outcome.specs.Outcome.{answer, verdict, outcomeOfVerdict, onAnswer}
 use Rattle.pauli_word.proofs.Planes.{bytes-of}
+use Rattle.group.specs.declared.Group.{Group}
 use Rattle.group.specs.Value.{AcceptedGroup}
 use Rattle.group.proofs.Accepted.{value-accepted}
-use Rattle.sum_rows.specs.Sums.{foldOutcome, wordsFilled, sumsFilled, countsFilled, handedBack}
-use Rattle.sum_rows.specs.Rows.{rowsIn, byteSums}
-use Rattle.merge.specs.Calls.{sumChecks, AcceptedRows}
-use Rattle.merge.proofs.SumChecks.{CheckedSum, checked-sum, checked-rows}
+use Rattle.row_lists.specs.Rows.{rowsIn}
+use Rattle.row_lists.specs.Checks.{AcceptedRows}
+use Rattle.row_lists.proofs.ListChecks.{Agreeing}
+use Rattle.row_words.specs.Words.{wordsFilled}
+use Rattle.sum_rows.specs.Sums.{foldOutcome, sumsFilled, countsFilled, handedBack}
+use Rattle.sum_rows.specs.Rows.{byteSums}
+use Rattle.merge.specs.Calls.{sumChecks}
+use Rattle.merge.proofs.SumChecks.{passed-value, passed-lengths, passed-rows}
 use Rattle.merge.proofs.SumCalls.{representatives-bytes, refused-outcome, refused-words, refused-sums, refused-counts, folded-outcome, folded-words, folded-sums, folded-counts}
 use Rattle.merge.proofs.canonicalize_pauli_sum.Statement.{statement}
 use Rattle.merge.proofs.canonicalize_pauli_sum.Tie as tie
@@ -22,17 +28,38 @@ module _ (c : tie.After-enum-told) where
   abbrev start : tie.Start
   start = c .before .before .before .before .before .before .before .before
 
-  pass : verdict (sumChecks (start .args .group) (now (start .args .words)) (now (start .args .coefficients)) (length (now (start .args .representatives))) (length (now (start .args .sums))) (length (now (start .args .counts)))) ≡ answer tt
+  abbrev group : Group
+  group = start .args .group
+
+  abbrev words : List ℕ
+  words = now (start .args .words)
+
+  abbrev cs : List Float
+  cs = now (start .args .coefficients)
+
+  -- how long the output lists are
+  abbrev representatives : ℕ
+  representatives = length (now (start .args .representatives))
+
+  abbrev sums : ℕ
+  sums = length (now (start .args .sums))
+
+  abbrev counts : ℕ
+  counts = length (now (start .args .counts))
+
+  pass : verdict (sumChecks group words cs representatives sums counts) ≡ answer tt
   pass = sym (c .before .before .sum-checked .ensures) ∙ ap outcomeOfVerdict (c .enum-told .given .1)
 
-  checked : CheckedSum (start .args .group) (now (start .args .words)) (now (start .args .coefficients)) (length (now (start .args .representatives))) (length (now (start .args .sums))) (length (now (start .args .counts)))
-  checked = checked-sum (start .args .group) (now (start .args .words)) (now (start .args .coefficients)) _ _ _ pass
+  lengths : Agreeing (length words) (length cs) representatives sums counts
+  lengths = passed-lengths group words cs representatives sums counts pass
 
-  accepted : AcceptedGroup (start .args .group)
-  accepted = value-accepted (start .args .group) (search needs) (search needs) (checked .value)
+  accepted : AcceptedGroup group
+  accepted = value-accepted group (search needs) (search needs) (passed-value group words cs representatives sums counts pass)
 
-  rows : AcceptedRows (start .args .group .sites) (now (start .args .words)) (length (now (start .args .coefficients)))
-  rows = checked-rows checked (bytes-of (now (start .args .words)) (λ i. c .before .before .before .before .before .before .before .shared-slice-known .given i .fits))
+  rows : AcceptedRows (group .sites) words (length cs)
+  rows =
+      passed-rows group words cs representatives sums counts pass (accepted .few)
+      (bytes-of words (λ i. c .before .before .before .before .before .before .before .shared-slice-known .given i .fits))
 
 sum-checked-requires : tie.Need-sum-checked-requires
 sum-checked-requires c κs = search needs
@@ -46,14 +73,15 @@ enum-told c = search needs
 representatives-requires : tie.Need-representatives-requires
 representatives-requires c κs =
     let e = c .before in
-    (accepted e, (rows e, checked e .representatives ∙ sym (checked e .long)))
+    (accepted e, (rows e, lengths e .leastsLong ∙ sym (lengths e .wordsLong)))
 
 fold-rows-requires : tie.Need-fold-rows-requires
 fold-rows-requires c κs =
     let e = c .before .before .before .before .before .before .before in
-    let s = start e in
-    let bytes = ap length (c .before .before .before .before .before .representatives .ensures) ∙ representatives-bytes (s .args .group) (now (s .args .words)) (length (now (s .args .coefficients))) in
-    (checked e .few, (bytes, (checked e .sums, checked e .counts)))
+    let bytes =
+    ap length (c .before .before .before .before .before .representatives .ensures) ∙ representatives-bytes (group e) (words e) (length (cs e))
+    in
+    (lengths e .few, (bytes, (lengths e .firstLong, lengths e .secondLong)))
 
 returns : tie.Need-returns
 returns c =

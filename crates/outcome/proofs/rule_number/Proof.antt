@@ -101,6 +101,12 @@ enum-told-31 c = search needs
 enum-told-32 : tie.Need-enum-told-32
 enum-told-32 c = search needs
 
+enum-told-33 : tie.Need-enum-told-33
+enum-told-33 c = search needs
+
+enum-told-34 : tie.Need-enum-told-34
+enum-told-34 c = search needs
+
 returns : tie.Need-returns
 returns c = sym (ap ruleNumber (c .enum-told .given .1))
 
@@ -197,6 +203,12 @@ returns-31 c = sym (ap ruleNumber (c .enum-told31 .given .1))
 returns-32 : tie.Need-returns-32
 returns-32 c = sym (ap ruleNumber (c .enum-told32 .given .1))
 
+returns-33 : tie.Need-returns-33
+returns-33 c = sym (ap ruleNumber (c .enum-told33 .given .1))
+
+returns-34 : tie.Need-returns-34
+returns-34 c = sym (ap ruleNumber (c .enum-told34 .given .1))
+
 pub rule-number-spec : {M : Type 1} → statement M
 rule-number-spec =
     tie.close
@@ -233,6 +245,8 @@ rule-number-spec =
     enum-told-30
     enum-told-31
     enum-told-32
+    enum-told-33
+    enum-told-34
     returns
     returns-2
     returns-3
@@ -264,4 +278,6 @@ rule-number-spec =
     returns-29
     returns-30
     returns-31
-    returns-32)
+    returns-32
+    returns-33
+    returns-34)

@@ -108,6 +108,12 @@ enum-told-19 c = search needs
 enum-told-20 : tie.Need-enum-told-20
 enum-told-20 c = search needs
 
+enum-told-21 : tie.Need-enum-told-21
+enum-told-21 c = search needs
+
+enum-known-why-13 : tie.Need-enum-known-why-13
+enum-known-why-13 c = search needs
+
 returns : tie.Need-returns
 returns c = sym (ap values (c .enum-told .given .1))
 
@@ -204,6 +210,12 @@ returns-31 c = sym (ap values (c .enum-told19 .given .1))
 returns-32 : tie.Need-returns-32
 returns-32 c = sym (ap values (c .enum-told20 .given .1))
 
+returns-33 : tie.Need-returns-33
+returns-33 c = sym (ap values (c .enum-told21 .given .1))
+
+returns-34 : tie.Need-returns-34
+returns-34 c = sym (ap values (c .before .why13 .given .1))
+
 pub rule-values-spec : {M : Type 1} → statement M
 rule-values-spec =
     tie.close
@@ -240,6 +252,8 @@ rule-values-spec =
     enum-known-why-12
     enum-told-19
     enum-told-20
+    enum-told-21
+    enum-known-why-13
     returns
     returns-2
     returns-3
@@ -271,4 +285,6 @@ rule-values-spec =
     returns-29
     returns-30
     returns-31
-    returns-32)
+    returns-32
+    returns-33
+    returns-34)

@@ -7,10 +7,10 @@ use Rattle.case_rows.proofs.rows.fill.Statement.{statement}
 use Rattle.case_rows.proofs.rows.fill.Tie as tie
 
 abbrev Inv-loop : tie.InvT-loop
-Inv-loop words₀ coefficients₀ from to word coefficient row₀ words coefficients row = (length words ≡ length words₀) × (length coefficients ≡ length coefficients₀)
+Inv-loop words₀ coefficients₀ wholes₀ from to word coefficient whole row₀ words coefficients wholes row = (length words ≡ length words₀) × (length coefficients ≡ length coefficients₀) × (length wholes ≡ length wholes₀)
 
 abbrev μ-loop : tie.MeasureT-loop
-μ-loop words₀ coefficients₀ from to word coefficient row₀ words coefficients row = to - row
+μ-loop words₀ coefficients₀ wholes₀ from to word coefficient whole row₀ words coefficients wholes row = to - row
 
 loop-holds : tie.Need-loop-holds Inv-loop μ-loop
 loop-holds c = search needs
@@ -33,6 +33,9 @@ same-length c = search needs
 same-length-2 : tie.Need-same-length-2 Inv-loop μ-loop
 same-length-2 c = search needs
 
+same-length-3 : tie.Need-same-length-3 Inv-loop μ-loop
+same-length-3 c = search needs
+
 returns : tie.Need-returns Inv-loop μ-loop
 returns c = search needs
 
@@ -49,4 +52,5 @@ fill-spec =
     loop-again
     same-length
     same-length-2
+    same-length-3
     returns)

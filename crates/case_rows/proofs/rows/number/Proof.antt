@@ -7,10 +7,10 @@ use Rattle.case_rows.proofs.rows.number.Statement.{statement}
 use Rattle.case_rows.proofs.rows.number.Tie as tie
 
 abbrev Inv-loop : tie.InvT-loop
-Inv-loop words₀ coefficients₀ count row₀ words coefficients row = (row ≤ count) × (length words ≡ length words₀) × (length coefficients ≡ length coefficients₀)
+Inv-loop words₀ coefficients₀ wholes₀ count row₀ words coefficients wholes row = (row ≤ count) × (length words ≡ length words₀) × (length coefficients ≡ length coefficients₀) × (length wholes ≡ length wholes₀)
 
 abbrev μ-loop : tie.MeasureT-loop
-μ-loop words₀ coefficients₀ count row₀ words coefficients row = count - row
+μ-loop words₀ coefficients₀ wholes₀ count row₀ words coefficients wholes row = count - row
 
 loop-holds : tie.Need-loop-holds Inv-loop μ-loop
 loop-holds c = search needs
@@ -23,6 +23,9 @@ slice-aggregate-put c = search needs
 
 float-requires : tie.Need-float-requires Inv-loop μ-loop
 float-requires c κs = search needs
+
+whole-requires : tie.Need-whole-requires Inv-loop μ-loop
+whole-requires c κs = search needs
 
 put-requires : tie.Need-put-requires Inv-loop μ-loop
 put-requires c κs = search needs
@@ -42,6 +45,9 @@ same-length c = search needs
 same-length-2 : tie.Need-same-length-2 Inv-loop μ-loop
 same-length-2 c = search needs
 
+same-length-3 : tie.Need-same-length-3 Inv-loop μ-loop
+same-length-3 c = search needs
+
 returns : tie.Need-returns Inv-loop μ-loop
 returns c = search needs
 
@@ -55,10 +61,12 @@ number-spec =
     numbered-requires
     slice-aggregate-put
     float-requires
+    whole-requires
     put-requires
     add-row
     loop-less
     loop-again
     same-length
     same-length-2
+    same-length-3
     returns)

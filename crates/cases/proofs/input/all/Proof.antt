@@ -6,10 +6,10 @@ use Rattle.cases.proofs.input.all.Statement.{statement}
 use Rattle.cases.proofs.input.all.Tie as tie
 
 abbrev Inv-loop : tie.InvT-loop
-Inv-loop line₀ words₀ coefficients₀ r₀ turns₀ line words coefficients r turns = (length line ≡ length line₀) × (length words ≡ length words₀) × (length coefficients ≡ length coefficients₀)
+Inv-loop line₀ words₀ coefficients₀ wholes₀ r₀ turns₀ line words coefficients wholes r turns = (length line ≡ length line₀) × (length words ≡ length words₀) × (length coefficients ≡ length coefficients₀) × (length wholes ≡ length wholes₀)
 
 abbrev μ-loop : tie.MeasureT-loop
-μ-loop line₀ words₀ coefficients₀ r₀ turns₀ line words coefficients r turns = turns
+μ-loop line₀ words₀ coefficients₀ wholes₀ r₀ turns₀ line words coefficients wholes r turns = turns
 
 nothing-requires : tie.Need-nothing-requires Inv-loop μ-loop
 nothing-requires c κs = search needs
@@ -29,6 +29,9 @@ same-length-2 c = search needs
 same-length-3 : tie.Need-same-length-3 Inv-loop μ-loop
 same-length-3 c = search needs
 
+same-length-4 : tie.Need-same-length-4 Inv-loop μ-loop
+same-length-4 c = search needs
+
 returns : tie.Need-returns Inv-loop μ-loop
 returns c = search needs
 
@@ -41,14 +44,17 @@ loop-less c = search needs
 loop-again : tie.Need-loop-again Inv-loop μ-loop
 loop-again c = search needs
 
-same-length-4 : tie.Need-same-length-4 Inv-loop μ-loop
-same-length-4 c = search needs
-
 same-length-5 : tie.Need-same-length-5 Inv-loop μ-loop
 same-length-5 c = search needs
 
 same-length-6 : tie.Need-same-length-6 Inv-loop μ-loop
 same-length-6 c = search needs
+
+same-length-7 : tie.Need-same-length-7 Inv-loop μ-loop
+same-length-7 c = search needs
+
+same-length-8 : tie.Need-same-length-8 Inv-loop μ-loop
+same-length-8 c = search needs
 
 returns-2 : tie.Need-returns-2 Inv-loop μ-loop
 returns-2 c = search needs
@@ -65,11 +71,13 @@ all-spec =
     same-length
     same-length-2
     same-length-3
+    same-length-4
     returns
     sub-turns
     loop-less
     loop-again
-    same-length-4
     same-length-5
     same-length-6
+    same-length-7
+    same-length-8
     returns-2)

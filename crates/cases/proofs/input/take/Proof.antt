@@ -7,10 +7,10 @@ use Rattle.cases.proofs.input.take.Statement.{statement}
 use Rattle.cases.proofs.input.take.Tie as tie
 
 abbrev Inv-loop : tie.InvT-loop
-Inv-loop bytes line₀ words₀ coefficients₀ s₀ held₀ at₀ end₀ line words coefficients s held at end = (at ≤ end) × (end ≤ length bytes) × (length line ≡ length line₀) × (length words ≡ length words₀) × (length coefficients ≡ length coefficients₀)
+Inv-loop bytes line₀ words₀ coefficients₀ wholes₀ s₀ held₀ at₀ end₀ line words coefficients wholes s held at end = (at ≤ end) × (end ≤ length bytes) × (length line ≡ length line₀) × (length words ≡ length words₀) × (length coefficients ≡ length coefficients₀) × (length wholes ≡ length wholes₀)
 
 abbrev μ-loop : tie.MeasureT-loop
-μ-loop bytes line₀ words₀ coefficients₀ s₀ held₀ at₀ end₀ line words coefficients s held at end = length bytes - at
+μ-loop bytes line₀ words₀ coefficients₀ wholes₀ s₀ held₀ at₀ end₀ line words coefficients wholes s held at end = length bytes - at
 
 line-end-requires : tie.Need-line-end-requires Inv-loop μ-loop
 line-end-requires c κs = search needs
@@ -63,6 +63,9 @@ same-length-2 c = search needs
 same-length-3 : tie.Need-same-length-3 Inv-loop μ-loop
 same-length-3 c = search needs
 
+same-length-4 : tie.Need-same-length-4 Inv-loop μ-loop
+same-length-4 c = search needs
+
 returns : tie.Need-returns Inv-loop μ-loop
 returns c = search needs
 
@@ -89,4 +92,5 @@ take-spec =
     same-length
     same-length-2
     same-length-3
+    same-length-4
     returns)

@@ -1,54 +1,52 @@
--- `checks::lists_checked` meets its contract: each return is reached by the tests that decide it.
-use mathlib.Core.Path.{_≡_, sym, _∙_}
-use mathlib.Core.Bool.{true}
+-- `checks::lists_checked` meets its contract: the lengths refuse, or the rows decide.
+use mathlib.Core.Path.{_≡_, sym, ap, _∙_}
+use mathlib.Core.List.{[], _∷_}
 use denote.Ref.{now}
 use lib.ListN.{length}
-use borrow.Author.Tests.{not-true, not-false}
 use borrow.Author.Needs.{needs}
-use Rattle.merge.specs.Calls.{rowsAgree}
-use Rattle.merge.proofs.SumChecks.{words-agree, lists-disagree, lists-many, lists-rows}
+use Rattle.outcome.specs.Outcome.{answer, verdict, outcomeOfVerdict}
+use Rattle.row_lists.specs.Checks.{otherRows, manyRows}
+use Rattle.row_lists.proofs.ListChecks.{lengths-agree, lists-refused, lists-rows}
+use Rattle.merge.specs.Calls.{notFinite}
 use Rattle.merge.proofs.checks.lists_checked.Statement.{statement}
 use Rattle.merge.proofs.checks.lists_checked.Tie as tie
 
--- the lists agree
-agree :
-    (c : tie.Else1)
-    → let a = c .before .before .before .before .args in
-    rowsAgree (length (now (a .words))) (length (now (a .coefficients))) (a .representatives) (a .sums) (a .counts) ≡ true
-agree c = sym (c .before .rows-agree .ensures) ∙ not-false (c .before .rows-agree .result) (c .if1 .left)
+-- the lengths pass
+lengths-pass :
+    (c : tie.After-enum-told)
+    → let a = c .before .before .before .before .before .args in
+    let rows = length (now (a .coefficients)) in
+    verdict (otherRows (length (now (a .words))) rows (a .representatives) (a .sums) (a .counts) ∷ manyRows rows ∷ []) ≡ answer tt
+lengths-pass c = sym (c .before .before .lengths-checked .ensures) ∙ ap outcomeOfVerdict (c .enum-told .given .1)
 
-rows-agree-requires : tie.Need-rows-agree-requires
-rows-agree-requires c κs = search needs
+lengths-checked-requires : tie.Need-lengths-checked-requires
+lengths-checked-requires c κs = search needs
 
-returns : tie.Need-returns
-returns c =
-    let a = c .before .before .before .before .args in
-    sym
-    (lists-disagree (a .sites) (now (a .words)) (now (a .coefficients)) (a .representatives) (a .sums) (a .counts)
-    (sym (c .before .rows-agree .ensures) ∙ not-true (c .before .rows-agree .result) (c .if1 .taken)))
+enum-known-why : tie.Need-enum-known-why
+enum-known-why c = search needs
 
-returns-2 : tie.Need-returns-2
-returns-2 c =
-    let a = c .before .before .before .before .before .args in
-    sym
-    (lists-many (a .sites) (now (a .words)) (now (a .coefficients)) (a .representatives) (a .sums) (a .counts) (agree (c .before)) (c .if2 .taken))
+enum-told : tie.Need-enum-told
+enum-told c = search needs
 
 rows-checked-requires : tie.Need-rows-checked-requires
 rows-checked-requires c κs =
-    let s = c .before .before .before .before .before in (
-      s .pre,
-      words-agree (length (now (s .args .words))) (length (now (s .args .coefficients))) (s .args .representatives) (s .args .sums) (s .args .counts)
-          (agree (c .before)),
-    )
+    let s = c .before .before .before .before .before in
+    let a = s .args in
+    (s .pre, lengths-agree (length (now (a .words))) (length (now (a .coefficients))) (a .representatives) (a .sums) (a .counts) (lengths-pass c) .wordsLong)
 
-returns-3 : tie.Need-returns-3
-returns-3 c =
+returns : tie.Need-returns
+returns c =
+    let a = c .before .before .before .before .before .before .args in
+    let e = sym (c .before .before .before .lengths-checked .ensures) ∙ ap outcomeOfVerdict (c .before .why .given .1) in
+    sym (lists-refused notFinite (a .sites) (now (a .words)) (now (a .coefficients)) (a .representatives) (a .sums) (a .counts) (c .before .why .given .0 .0) e)
+
+returns-2 : tie.Need-returns-2
+returns-2 c =
     let t = c .before in
     let a = t .before .before .before .before .before .args in
     c .rows-checked .ensures
-    ∙ sym
-    (lists-rows (a .sites) (now (a .words)) (now (a .coefficients)) (a .representatives) (a .sums) (a .counts) (agree (t .before)) (t .if2 .left))
+    ∙ sym (lists-rows notFinite (a .sites) (now (a .words)) (now (a .coefficients)) (a .representatives) (a .sums) (a .counts) (lengths-pass t))
 
 pub lists-checked-spec : {M : Type 1} → statement M
 lists-checked-spec =
-    tie.close (tie.spec rows-agree-requires returns returns-2 rows-checked-requires returns-3)
+    tie.close (tie.spec lengths-checked-requires enum-known-why enum-told rows-checked-requires returns returns-2)

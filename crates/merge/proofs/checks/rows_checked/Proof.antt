@@ -4,18 +4,20 @@ use mathlib.Core.Path.{_≡_, refl, sym, ap, _∙_}
 use native.Mathlib.Omega.{arith}
 use denote.Ref.{now}
 use lib.ListN.{length, drop}
+use lib.Ieee.{nan}
 use borrow.Author.Needs.{needs}
 use Rattle.outcome.specs.Outcome.{outcomeOfVerdict, verdict}
-use Rattle.sum_rows.specs.Rows.{rowsIn}
-use Rattle.merge.specs.Calls.{rowChecks}
-use Rattle.merge.proofs.SumChecks.{checks-refused, checks-pass, checks-end}
+use Rattle.row_lists.specs.Rows.{rowsIn}
+use Rattle.row_lists.specs.Checks.{rowChecks}
+use Rattle.row_lists.proofs.ListChecks.{checks-refused, checks-pass, checks-end}
+use Rattle.merge.specs.Calls.{notFinite}
 use Rattle.merge.proofs.checks.rows_checked.Statement.{statement}
 use Rattle.merge.proofs.checks.rows_checked.Tie as tie
 
 abbrev Inv-loop : tie.InvT-loop
 Inv-loop sites words coefficients i₀ i =
     (i ≤ length coefficients)
-    × (verdict (rowChecks sites 0 (rowsIn words coefficients)) ≡ verdict (rowChecks sites i (drop i (rowsIn words coefficients))))
+    × (verdict (rowChecks notFinite sites 0 (rowsIn words coefficients)) ≡ verdict (rowChecks notFinite sites i (drop i (rowsIn words coefficients))))
 
 abbrev μ-loop : tie.MeasureT-loop
 μ-loop sites words coefficients i₀ i = length coefficients - i
@@ -32,11 +34,11 @@ enum-known-why c = search needs
 returns : tie.Need-returns Inv-loop μ-loop
 returns c =
     let t = c .before .before .before .before in
-    let s = t .before .before .before .before in
+    let a = t .before .before .before .before .args in
     sym
     (t .before .loop .inv .1
-    ∙ checks-refused (s .args .sites) (now (s .args .words)) (now (s .args .coefficients)) (t .before .loop .i) (c .before .why .given .0 .0) (t .loop-test .taken)
-    (sym (c .before .before .before .row-checked .ensures) ∙ ap outcomeOfVerdict (c .before .why .given .1)))
+    ∙ checks-refused notFinite nan (a .sites) (now (a .words)) (now (a .coefficients)) (t .before .loop .i) (c .before .why .given .0 .0)
+    (t .loop-test .taken) (sym (c .before .before .before .row-checked .ensures) ∙ ap outcomeOfVerdict (c .before .why .given .1)))
 
 enum-told : tie.Need-enum-told Inv-loop μ-loop
 enum-told c = search needs
@@ -50,17 +52,17 @@ loop-less c = search needs
 loop-again : tie.Need-loop-again Inv-loop μ-loop
 loop-again c =
     let t = c .before .before .before in
-    let s = t .before .before .before .before in (
+    let a = t .before .before .before .before .args in (
       omega (arith, t .loop-test .taken),
       t .before .loop .inv .1
-          ∙ checks-pass (s .args .sites) (now (s .args .words)) (now (s .args .coefficients)) (t .before .loop .i) (t .loop-test .taken)
+          ∙ checks-pass notFinite nan (a .sites) (now (a .words)) (now (a .coefficients)) (t .before .loop .i) (t .loop-test .taken)
           (sym (c .before .before .row-checked .ensures) ∙ ap outcomeOfVerdict (c .enum-told .given .1)),
     )
 
 returns-2 : tie.Need-returns-2 Inv-loop μ-loop
 returns-2 c =
-    let s = c .before .before .before .before in
-    sym (c .before .loop .inv .1 ∙ checks-end (s .args .sites) (now (s .args .words)) (now (s .args .coefficients)) (c .before .loop .i) (c .loop-test .left))
+    let a = c .before .before .before .before .args in
+    sym (c .before .loop .inv .1 ∙ checks-end notFinite nan (a .sites) (now (a .words)) (now (a .coefficients)) (c .before .loop .i) (c .loop-test .left))
 
 pub rows-checked-spec : {M : Type 1} → statement M
 rows-checked-spec =

@@ -4,7 +4,8 @@ use denote.Ref.{now}
 use borrow.Author.Needs.{needs}
 use Rattle.outcome.specs.Outcome.{answer, verdict, outcomeOfVerdict}
 use Rattle.group.specs.Calls.{valueChecks}
-use Rattle.merge.proofs.SumChecks.{value-few, sum-refused, sum-lists}
+use Rattle.group.proofs.Accepted.{value-accepted}
+use Rattle.merge.proofs.SumChecks.{sum-refused, sum-lists}
 use Rattle.merge.proofs.checks.sum_checked.Statement.{statement}
 use Rattle.merge.proofs.checks.sum_checked.Tie as tie
 
@@ -23,8 +24,7 @@ enum-told c = search needs
 
 lists-checked-requires : tie.Need-lists-checked-requires
 lists-checked-requires c κs =
-    value-few (c .before .before .before .before .before .args .group)
-    (value-passes c)
+    value-accepted (c .before .before .before .before .before .args .group) (search needs) (search needs) (value-passes c) .few
 
 returns : tie.Need-returns
 returns c =

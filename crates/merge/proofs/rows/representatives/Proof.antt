@@ -8,8 +8,9 @@ use Rattle.pauli_word.specs.Limits.{planeLength, wordLength}
 use Rattle.pauli_word.proofs.Words.{encode-length}
 use Rattle.elements.proofs.Orbits.{part-length, stored, stored-start, stored-length, stored-next, stored-end}
 use Rattle.row_lists.specs.Rows.{rowAt}
+use Rattle.row_lists.proofs.ListChecks.{part-accepted}
 use Rattle.merge.specs.Calls.{representative, representativesOf}
-use Rattle.merge.proofs.RowParts.{part-accepted, part-representative}
+use Rattle.merge.proofs.RowParts.{part-representative}
 use Rattle.merge.proofs.rows.representatives.Statement.{statement}
 use Rattle.merge.proofs.rows.representatives.Tie as tie
 

@@ -5,7 +5,8 @@ use denote.Ref.{now}
 use borrow.Author.Tests.{not-true, not-false}
 use Rattle.outcome.specs.Outcome.{outcomeOfVerdict}
 use Rattle.group.specs.Value.{isGroup}
-use Rattle.orbit.proofs.WordCalls.{other-length, word-clear, word-above, group-many, word-many, group-other, other-sites, bit-above, word-passes}
+use Rattle.pauli_word.proofs.Checks.{word-clear, word-above}
+use Rattle.orbit.proofs.WordCalls.{other-length, group-many, word-many, group-other, other-sites, bit-above, word-passes}
 use borrow.Author.Needs.{needs}
 use Rattle.orbit.proofs.inner.word_call_checked.Statement.{statement}
 use Rattle.orbit.proofs.inner.word_call_checked.Tie as tie

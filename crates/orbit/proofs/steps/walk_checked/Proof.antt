@@ -8,7 +8,7 @@ use Rattle.outcome.specs.Outcome.{outcomeOfVerdict}
 use Rattle.pauli_word.specs.Calls.{clearAbove}
 use Rattle.group.specs.Value.{AcceptedGroup}
 use Rattle.group.proofs.Accepted.{value-accepted}
-use Rattle.orbit.proofs.WordCalls.{word-clear, word-above}
+use Rattle.pauli_word.proofs.Checks.{word-clear, word-above}
 use Rattle.orbit.proofs.Walking.{walk-refused, other-word, past-order, walk-passes}
 use borrow.Author.Needs.{needs}
 use Rattle.orbit.proofs.steps.walk_checked.Statement.{statement}

@@ -15,9 +15,6 @@ cast-from c = search needs
 swap-words-requires : tie.Need-swap-words-requires
 swap-words-requires c κs = search needs
 
-swap-sums-requires : tie.Need-swap-sums-requires
-swap-sums-requires c κs = search needs
-
 tell-owner-requires : tie.Need-tell-owner-requires
 tell-owner-requires c κs = search needs
 
@@ -30,18 +27,8 @@ same-length-2 c = search needs
 same-length-3 : tie.Need-same-length-3
 same-length-3 c = search needs
 
-same-length-4 : tie.Need-same-length-4
-same-length-4 c = search needs
-
-same-length-5 : tie.Need-same-length-5
-same-length-5 c = search needs
-
 returns : tie.Need-returns
-returns c =
-    let told = c .before .before .before .before in
-    let sums = told .before .before .before .before .before .before .before in
-    let words = sums .before .before .before .before .before in
-    (told .tell-owner .ensures .0, (told .tell-owner .ensures .1, (words .swap-words .ensures, sums .swap-sums .ensures)))
+returns c = search needs
 
 pub place-row-spec : {M : Type 1} → statement M
 place-row-spec =
@@ -51,11 +38,8 @@ place-row-spec =
     slice-read-from
     cast-from
     swap-words-requires
-    swap-sums-requires
     tell-owner-requires
     same-length
     same-length-2
     same-length-3
-    same-length-4
-    same-length-5
     returns)

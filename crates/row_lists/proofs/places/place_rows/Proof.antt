@@ -4,48 +4,42 @@ use mathlib.Core.Path.{refl, sym, _∙_}
 use native.Mathlib.Omega.{arith}
 use Rattle.row_lists.specs.Rows.{maxRows}
 use Rattle.row_lists.proofs.Arranging.{positions-all, zeros-small}
-use Rattle.row_lists.proofs.Placing.{Placing, placing-start, placing-next, placing-end}
+use Rattle.row_lists.proofs.Placing.{Placing, placing-start, here-inside, from-inside, placing-next, placing-end}
 use Rattle.row_lists.proofs.places.place_rows.Statement.{statement}
 use Rattle.row_lists.proofs.places.place_rows.Tie as tie
 
 abbrev Inv-loop : tie.InvT-loop
-Inv-loop positions₀ used words₀ sums₀ counts₀ owners₀ k₀ positions words sums counts owners k = (k ≤ used) × Placing positions₀ words₀ sums₀ counts₀ used positions owners words sums counts k
+Inv-loop positions₀ used words₀ owners₀ k₀ positions words owners k = (k ≤ used) × Placing positions₀ words₀ used positions owners words k
 
 abbrev μ-loop : tie.MeasureT-loop
-μ-loop positions₀ used words₀ sums₀ counts₀ owners₀ k₀ positions words sums counts owners k = used - k
+μ-loop positions₀ used words₀ owners₀ k₀ positions words owners k = used - k
 
 slice-aggregate-own : tie.Need-slice-aggregate-own Inv-loop μ-loop
 slice-aggregate-own c = refl
 
 own-requires : tie.Need-own-requires Inv-loop μ-loop
-own-requires c κs =
-    (positions-all (c .before .before .before .before .before .before .pre .0), (refl, zeros-small maxRows))
+own-requires c κs = (positions-all (c .before .before .before .before .pre), (refl, zeros-small maxRows))
 
 loop-holds : tie.Need-loop-holds Inv-loop μ-loop
-loop-holds c =
-    (omega arith, placing-start (c .before .before .before .before .before .before .before .before .pre .0) (c .before .own .ensures))
+loop-holds c = (omega arith, placing-start (c .before .before .before .before .before .before .pre) (c .before .own .ensures))
 
 slice-aggregate-place-row : tie.Need-slice-aggregate-place-row Inv-loop μ-loop
 slice-aggregate-place-row c = sym (c .before .before .before .loop .inv .1 .waiting .owned .places)
 
 place-row-requires : tie.Need-place-row-requires Inv-loop μ-loop
 place-row-requires c κs =
-    let l = c .before .before .before .before .before .before .loop in
+    let l = c .before .before .before .before .loop in
     let p = l .inv .1 in
-    let s = c .before .before .before .before .before .before .before .before .before .before .before .before .before .before .before in
-    let h = c .before .before .before .before .before .loop-test .taken in
-    let w = p .waiting in (
+    let w = p .waiting in
+    let h = c .before .before .before .loop-test .taken in (
       w .places,
       (
         w .owned .places,
         (
-          omega (arith, w .few, p .sumsLong),
+          omega (arith, w .few, w .enough, h),
           (
-            omega (arith, w .enough, p .sumsLong, h),
-            (
-              omega (arith, w .inside (l .k) (omega arith) h, p .sumsLong),
-              (w .owned .small (l .k), (omega (arith, p .wordsLong, s .pre .1 .0, p .sumsLong), p .countsLong ∙ s .pre .1 .1 ∙ sym (p .sumsLong))),
-            ),
+            omega (arith, w .few, w .inside (l .k) (omega arith) h),
+            (w .owned .small (l .k), (here-inside h p, from-inside h p)),
           ),
         ),
       ),
@@ -59,27 +53,20 @@ loop-less c = omega arith
 
 loop-again : tie.Need-loop-again Inv-loop μ-loop
 loop-again c =
-    let placed = c .before .before .before .before .before .before .before .before .before in
-    let test = placed .before .before .before .before .before .before in
+    let placed = c .before .before .before .before .before in
+    let test = placed .before .before .before .before in
     let l = test .before .loop in
-    let s = test .before .before .before .before .before .before .before .before .before .before in
-    (omega (arith, test .loop-test .taken), placing-next (s .pre .1 .0) (s .pre .1 .1) (test .loop-test .taken) (l .inv .1) (placed .place-row .ensures))
+    (omega (arith, test .loop-test .taken), placing-next (test .loop-test .taken) (l .inv .1) (placed .place-row .ensures))
 
 same-length : tie.Need-same-length Inv-loop μ-loop
-same-length c = c .before .loop .inv .1 .waiting .places ∙ sym (c .before .before .before .before .before .before .before .before .before .before .pre .0 .places)
+same-length c = c .before .loop .inv .1 .waiting .places ∙ sym (c .before .before .before .before .before .before .before .before .pre .places)
 
 same-length-2 : tie.Need-same-length-2 Inv-loop μ-loop
-same-length-2 c = c .before .loop .inv .1 .wordsLong
-
-same-length-3 : tie.Need-same-length-3 Inv-loop μ-loop
-same-length-3 c = c .before .loop .inv .1 .sumsLong
-
-same-length-4 : tie.Need-same-length-4 Inv-loop μ-loop
-same-length-4 c = c .before .loop .inv .1 .countsLong
+same-length-2 c = c .before .loop .inv .1 .long
 
 returns : tie.Need-returns Inv-loop μ-loop
 returns c =
-    let p = c .before .before .before .before .before .before .before .before .before .before .pre .0 in
+    let p = c .before .before .before .before .before .before .before .before .pre in
     placing-end (c .loop-test .left) (omega (arith, p .places, p .few, p .enough)) (c .before .loop .inv .1)
 
 pub place-rows-spec : {M : Type 1} → statement M
@@ -98,6 +85,4 @@ place-rows-spec =
     loop-again
     same-length
     same-length-2
-    same-length-3
-    same-length-4
     returns)

@@ -1,0 +1,4 @@
+-- Laws of phase tables.
+pub mod Tests
+pub mod Constant
+pub mod Examples

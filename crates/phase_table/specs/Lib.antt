@@ -1,0 +1,4 @@
+-- What the contracts of this crate say.
+pub mod Table
+pub mod Rules
+pub mod Nearest

@@ -1,0 +1,88 @@
+-- Worked examples of the call on rings, which the checker computes: three rows projected by the constant table, what the output lists then hold,
+-- and a refusal of each kind that three rows can show.
+use Prim.Native.Nat.{ℕ, suc, _*_}
+use mathlib.Core.Path.{_≡_, refl}
+use mathlib.Core.List.{List, [], _∷_}
+use lib.IntN.{ℤ, pos, negsuc}
+use Rattle.outcome.specs.declared.Refusal.the-variants as Refusal
+use Rattle.outcome.specs.Outcome.{Outcome, answer, refusalOf}
+use Rattle.pauli_word.specs.Limits.{maxSites, wordLength}
+use Rattle.pauli_word.specs.Word.{I, X}
+use Rattle.pauli_word.specs.Bytes.{encode, decode, planeOf, number, planeBits, lowBits, lettersOf, clearFrom, clear}
+use Rattle.action.specs.Arithmetic.{product}
+use Rattle.action.specs.Lattice.{chain}
+use Rattle.action.specs.Sector.{modulus, keeps}
+use Rattle.permutation.specs.Generators.{permsCheck, ordersCheck, pairsCheck}
+use Rattle.elements.specs.HeldGroup.{encodeAll}
+use Rattle.group.specs.declared.Group.{Group}
+use Rattle.group.specs.Value.{groupOf, noGroup, isGroup, generatorsOf}
+use Rattle.row_lists.specs.Rows.{rowsIn}
+use Rattle.phase_table.specs.Table.{phaseTable}
+use Rattle.phase_table.specs.Rules.{unit}
+use Rattle.projection.specs.Projection.{keptRows, droppedRows, projected}
+use Rattle.project.specs.Calls.{maxCoefficient, inputRows, ProjectedSum, projectedSum, projectOutcome, cosinesAfter, sinesAfter}
+
+abbrev ring : ℕ → Group
+ring n = groupOf n (chain n)
+
+-- what XIII, XIXI and IXII with these coefficients come to, with output lists of k rows
+abbrev outcome : Group → List ℤ → List ℤ → ℕ → Outcome ProjectedSum
+outcome g ks cs k =
+    let words : List ℕ = encodeAll ((X ∷ I ∷ I ∷ I ∷ []) ∷ (X ∷ I ∷ X ∷ I ∷ []) ∷ (I ∷ X ∷ I ∷ I ∷ []) ∷ []) in
+    projectOutcome phaseTable g ks words cs (wordLength * k) k k
+
+-- coefficients 3, 5 and -7
+abbrev some : List ℤ
+some = pos 3 ∷ pos 5 ∷ negsuc 6 ∷ []
+
+-- mode 1 drops XIXI; XIII is a quarter turn from IIIX and IXII half a turn, so that 3 goes along the sine and -7 backwards along the cosine.
+-- Mode 0 keeps all: coefficients 3 and -3 come to 0, and their row stays
+answers :
+    outcome (ring 4) (pos 1 ∷ []) some 3
+    ∷ outcome (ring 4) (pos 0 ∷ []) (pos 3 ∷ pos 5 ∷ negsuc 2 ∷ []) 3
+    ∷ []
+    ≡ answer (record { kept = 2; dropped = 1; table = (I ∷ I ∷ I ∷ X ∷ [], (pos (7 * unit), pos (3 * unit))) ∷ [] })
+    ∷ answer
+    (record { kept = 3; dropped = 0; table = (I ∷ I ∷ I ∷ X ∷ [], (pos 0, pos 0)) ∷ (I ∷ X ∷ I ∷ X ∷ [], (pos (5 * unit), pos 0)) ∷ [] })
+    ∷ []
+unfolding projectOutcome projectedSum inputRows rowsIn encodeAll encode planeOf number decode planeBits lowBits lettersOf clearFrom clear chain groupOf
+    isGroup permsCheck ordersCheck pairsCheck product generatorsOf modulus keptRows droppedRows projected keeps phaseTable
+answers = refl
+
+-- the lists after the first of these, and after a refusal
+lists-after :
+    let was : List ℤ = pos 1 ∷ pos 2 ∷ pos 3 ∷ [] in
+    cosinesAfter was 3 (outcome (ring 4) (pos 1 ∷ []) some 3)
+    ∷ sinesAfter was 3 (outcome (ring 4) (pos 1 ∷ []) some 3)
+    ∷ cosinesAfter was 3 (outcome (ring 4) [] some 3)
+    ∷ []
+    ≡ (pos (7 * unit) ∷ pos 0 ∷ pos 0 ∷ []) ∷ (pos (3 * unit) ∷ pos 0 ∷ pos 0 ∷ []) ∷ was ∷ []
+unfolding projectOutcome projectedSum inputRows rowsIn encodeAll encode planeOf number decode planeBits lowBits lettersOf clearFrom clear chain groupOf
+    isGroup permsCheck ordersCheck pairsCheck product generatorsOf modulus keptRows droppedRows projected keeps phaseTable
+lists-after = refl
+
+-- too many sites; no group; a mode too few; seven parts of a turn; output lists of two rows; on a ring of two sites XIXI has a letter too many, which
+-- comes before its coefficient; and row 0 comes before it
+refusals :
+    let large : ℤ = pos (suc maxCoefficient) in
+    outcome (groupOf (suc maxSites) []) [] some 3
+    ∷ outcome noGroup [] some 3
+    ∷ outcome (ring 7) [] some 2
+    ∷ outcome (ring 7) (pos 1 ∷ []) some 2
+    ∷ outcome (ring 4) (pos 1 ∷ []) some 2
+    ∷ outcome (ring 2) (pos 1 ∷ []) (pos 3 ∷ large ∷ pos 0 ∷ []) 3
+    ∷ outcome (ring 2) (pos 1 ∷ []) (large ∷ large ∷ pos 0 ∷ []) 3
+    ∷ outcome (ring 4) (pos 1 ∷ []) (pos maxCoefficient ∷ negsuc maxCoefficient ∷ pos 0 ∷ []) 3
+    ∷ []
+    ≡ refusalOf Refusal.TooManySites
+    ∷ refusalOf Refusal.InvalidValue
+    ∷ refusalOf Refusal.ModeCount
+    ∷ refusalOf Refusal.PhaseModulus
+    ∷ refusalOf Refusal.SumLists
+    ∷ refusalOf (Refusal.RowBitAboveSites 1)
+    ∷ refusalOf (Refusal.CoefficientRange 0)
+    ∷ refusalOf (Refusal.CoefficientRange 1)
+    ∷ []
+unfolding projectOutcome rowsIn encodeAll encode planeOf number planeBits lowBits clearFrom clear chain groupOf noGroup isGroup permsCheck ordersCheck
+    pairsCheck product generatorsOf modulus
+refusals = refl

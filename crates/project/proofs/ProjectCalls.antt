@@ -1,0 +1,83 @@
+-- The call as its parts give it: refused by its checks, with the lists as they were; or, past them, the projected sum of the rows.
+use Prim.Native.Nat.{ℕ, _-_, _<_}
+use mathlib.Core.Path.{_≡_, sym, ap, _∙_}
+use mathlib.Core.List.{List, map}
+use native.Mathlib.Decide.{decLt}
+use native.Mathlib.Omega.{arith}
+use lib.IntN.{ℤ, pos}
+use lib.ListN.{length, getD, List·getD-eq-default}
+use Rattle.outcome.specs.declared.Refusal.{Refusal}
+use Rattle.outcome.specs.Outcome.{answer, refusalOf, verdict, onAnswer}
+use Rattle.outcome.proofs.Outcomes.{call-refused, call-answers}
+use Rattle.pauli_word.specs.Bytes.{bytesOf}
+use Rattle.group.specs.declared.Group.{Group}
+use Rattle.group.specs.Value.{generatorsOf}
+use Rattle.keyed.specs.Keyed.{renamed}
+use Rattle.row_words.specs.Words.{wordsFilled, filled}
+use Rattle.phase_table.specs.declared.PhaseTable.{PhaseTable}
+use Rattle.phase_table.specs.Table.{phaseTable}
+use Rattle.phase_table.specs.Rules.{turn, unit, InRange, cosine, sine}
+use Rattle.phase_table.proofs.Constant.{constant-range, constant-lengths}
+use Rattle.projection.specs.Projection.{keptRows, droppedRows, projected}
+use Rattle.projection.proofs.Projected.{counts-add}
+use Rattle.project.specs.Calls.{projectChecks, inputRows, projectedSum, projectOutcome, countsOf, wordsAfter, cosinesAfter, sinesAfter}
+use Rattle.project.specs.Rows.{PhaseLists}
+use Rattle.project.proofs.TurnedRows.{input-length}
+
+-- ---- the lists of the constant table
+
+-- a list that is in range at its places is in range everywhere
+everywhere : (xs : List ℤ) → length xs ≡ turn → ((e : ℕ) → e < turn → InRange unit (getD xs e (pos 0))) → (e : ℕ) → InRange unit (getD xs e (pos 0))
+everywhere xs long inside e = go (decLt e turn)
+  where
+    go : Dec (e < turn) → InRange unit (getD xs e (pos 0))
+    go (yes h) = inside e h
+    go (no n) = rw (List·getD-eq-default xs (pos 0) {n = e} (omega (arith, n))) (omega arith)
+
+pub constant-lists : PhaseLists (phaseTable .cosines) (phaseTable .sines)
+unfolding cosine sine
+constant-lists =
+    record {
+      cosinesLong = constant-lengths .0;
+      sinesLong = constant-lengths .1;
+      cosinesIn = everywhere (phaseTable .cosines) (constant-lengths .0) (constant-range .cosines);
+      sinesIn = everywhere (phaseTable .sines) (constant-lengths .1) (constant-range .sines);
+    }
+
+-- ---- the outcome
+
+module _ (t : PhaseTable) (g : Group) (ks : List ℤ) (words : List ℕ) (cs : List ℤ) (a b c : ℕ) where
+  pub project-refused : (why : Refusal) → verdict (projectChecks g ks words cs a b c) ≡ refusalOf why → projectOutcome t g ks words cs a b c ≡ refusalOf why
+  unfolding projectOutcome
+  project-refused = call-refused (projectChecks g ks words cs a b c) (answer (projectedSum t g ks (inputRows g words cs)))
+
+  module _ (pass : verdict (projectChecks g ks words cs a b c) ≡ answer tt) where
+    project-answers : projectOutcome t g ks words cs a b c ≡ answer (projectedSum t g ks (inputRows g words cs))
+    unfolding projectOutcome
+    project-answers = call-answers (projectChecks g ks words cs a b c) (answer (projectedSum t g ks (inputRows g words cs))) pass
+
+    -- the answer, by the rows that are kept
+    pub answered-counts : {kept : ℕ} → kept ≡ length (keptRows (generatorsOf g) ks (inputRows g words cs))
+        → answer (kept, length cs - kept) ≡ onAnswer countsOf (projectOutcome t g ks words cs a b c)
+    unfolding projectedSum
+    answered-counts {kept} e =
+        let rows = inputRows g words cs in
+        let left : length cs - kept ≡ length (droppedRows (generatorsOf g) ks rows) =
+        omega (arith, counts-add (generatorsOf g) ks rows, input-length g words cs) in
+        rw (e, rw e at left) (sym (ap (onAnswer countsOf) project-answers))
+
+    -- the lists
+    pub answered-words : {out : List ℕ} (was : List ℕ) → out ≡ wordsFilled (length cs) (map (renamed bytesOf) (projected (t .cosines) (t .sines) (generatorsOf g) ks (inputRows g words cs)))
+        → out ≡ wordsAfter was (length cs) (projectOutcome t g ks words cs a b c)
+    unfolding projectedSum
+    answered-words was e = e ∙ sym (ap (wordsAfter was (length cs)) project-answers)
+
+    pub answered-cosines : {out : List ℤ} (was : List ℤ) → out ≡ filled (pos 0) (λ row. row .1 .0) (length cs) (projected (t .cosines) (t .sines) (generatorsOf g) ks (inputRows g words cs))
+        → out ≡ cosinesAfter was (length cs) (projectOutcome t g ks words cs a b c)
+    unfolding projectedSum
+    answered-cosines was e = e ∙ sym (ap (cosinesAfter was (length cs)) project-answers)
+
+    pub answered-sines : {out : List ℤ} (was : List ℤ) → out ≡ filled (pos 0) (λ row. row .1 .1) (length cs) (projected (t .cosines) (t .sines) (generatorsOf g) ks (inputRows g words cs))
+        → out ≡ sinesAfter was (length cs) (projectOutcome t g ks words cs a b c)
+    unfolding projectedSum
+    answered-sines was e = e ∙ sym (ap (sinesAfter was (length cs)) project-answers)

@@ -1,0 +1,126 @@
+// The checks of a projected sum: 1, 14, 18, 32, 22, 23, and then its rows in order, each for 17 and 33. Whoever calls a function here owes its
+// `requires`.
+ghost use mathlib.Core.Path.{_≡_};
+ghost use mathlib.Core.List.{[], _∷_};
+ghost use Prim.Native.Nat.{_*_, _≤_, _<_};
+ghost use lib.IntN.{pos};
+ghost use lib.ListN.{length, getD};
+ghost use Rattle.outcome.specs.Outcome.{outcomeOfVerdict, verdict};
+ghost use Rattle.pauli_word.specs.Limits.{maxSites, wordLength};
+ghost use Rattle.group.specs.Value.{AcceptedGroup};
+ghost use Rattle.momentum.specs.Calls.{modeCount};
+ghost use Rattle.row_lists.specs.Rows.{rowAt, rowsIn};
+ghost use Rattle.row_lists.specs.Checks.{rowRules, rowChecks, listChecks};
+ghost use Rattle.phase_table.specs.Rules.{inRange};
+ghost use Rattle.project.specs.Calls.{maxCoefficient, otherModulus, outOfRange, projectChecks};
+use crate::MAX_COEFFICIENT;
+use group::Group;
+use outcome::Refusal;
+use outcome::Verdict;
+use phase_table::PHASES;
+
+// Whether a coefficient is in its range.
+pub fn in_range(coefficient: i64) -> bool
+    ensures { λ r. ⌜ r ≡ inRange maxCoefficient coefficient ⌝ }
+{
+    if coefficient < -MAX_COEFFICIENT {
+        return false;
+    }
+    coefficient <= MAX_COEFFICIENT
+}
+
+// The checks of row i: 17, 33.
+pub fn row_checked(sites: usize, words: &[u8], coefficients: &[i64], i: usize) -> Verdict
+    requires { ⌜ sites ≤ maxSites ⌝ }
+    requires { ⌜ length (now words) ≡ wordLength * length (now coefficients) ⌝ }
+    requires { ⌜ i < length (now coefficients) ⌝ }
+    ensures { λ r. ⌜ outcomeOfVerdict r ≡ verdict (rowRules sites i (rowAt (now (words .entry)) i) (outOfRange i (getD (now (coefficients .entry)) i (pos 0)))) ⌝ }
+{
+    match row_lists::checks::word_checked(sites, words, i) {
+        Verdict::Refused(why) => Verdict::Refused(why),
+        Verdict::Accepted => {
+            if in_range(coefficients[i]) {
+                Verdict::Accepted
+            } else {
+                Verdict::Refused(Refusal::CoefficientRange(i))
+            }
+        }
+    }
+}
+
+// The checks of the rows, in their order.
+pub fn rows_checked(sites: usize, words: &[u8], coefficients: &[i64]) -> Verdict
+    requires { ⌜ sites ≤ maxSites ⌝ }
+    requires { ⌜ length (now words) ≡ wordLength * length (now coefficients) ⌝ }
+    ensures { λ r. ⌜ outcomeOfVerdict r ≡ verdict (rowChecks outOfRange sites 0 (rowsIn (now (words .entry)) (now (coefficients .entry)))) ⌝ }
+{
+    let mut i = 0;
+    while i < coefficients.len() {
+        match row_checked(sites, words, coefficients, i) {
+            Verdict::Refused(why) => {
+                return Verdict::Refused(why);
+            }
+            Verdict::Accepted => {
+                i += 1;
+            }
+        }
+    }
+    Verdict::Accepted
+}
+
+// The checks of the lists: 22, 23, and then the rows.
+pub fn lists_checked(
+    sites: usize,
+    words: &[u8],
+    coefficients: &[i64],
+    leasts: usize,
+    first: usize,
+    second: usize,
+) -> Verdict
+    requires { ⌜ sites ≤ maxSites ⌝ }
+    ensures { λ r. ⌜ outcomeOfVerdict r ≡ verdict (listChecks outOfRange sites (now (words .entry)) (now (coefficients .entry)) leasts first second) ⌝ }
+{
+    let rows = coefficients.len();
+    match row_lists::checks::lengths_checked(words.len(), rows, leasts, first, second) {
+        Verdict::Refused(why) => Verdict::Refused(why),
+        Verdict::Accepted => rows_checked(sites, words, coefficients),
+    }
+}
+
+// The checks of the modes: 18, 32.
+pub fn modes_checked(group: Group, modes: &[i32]) -> Verdict
+    requires { ⌜ AcceptedGroup group ⌝ }
+    ensures { λ r. ⌜ outcomeOfVerdict r ≡ verdict (modeCount group (now (modes .entry)) ∷ otherModulus group ∷ []) ⌝ }
+{
+    if modes.len() != group.generators {
+        return Verdict::Refused(Refusal::ModeCount);
+    }
+    if PHASES % group::inner::modulus_of(group) == 0 {
+        Verdict::Accepted
+    } else {
+        Verdict::Refused(Refusal::PhaseModulus)
+    }
+}
+
+// All checks of a projected sum.
+pub fn projection_checked(
+    group: Group,
+    modes: &[i32],
+    words: &[u8],
+    coefficients: &[i64],
+    leasts: usize,
+    first: usize,
+    second: usize,
+) -> Verdict
+    ensures { λ r. ⌜ outcomeOfVerdict r ≡ verdict (projectChecks group (now (modes .entry)) (now (words .entry)) (now (coefficients .entry)) leasts first second) ⌝ }
+{
+    match group::inner::value_checked(group) {
+        Verdict::Refused(why) => Verdict::Refused(why),
+        Verdict::Accepted => match modes_checked(group, modes) {
+            Verdict::Refused(why) => Verdict::Refused(why),
+            Verdict::Accepted => {
+                lists_checked(group.sites, words, coefficients, leasts, first, second)
+            }
+        },
+    }
+}

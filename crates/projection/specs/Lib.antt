@@ -1,0 +1,2 @@
+-- Sums projected onto a momentum sector.
+pub mod Projection

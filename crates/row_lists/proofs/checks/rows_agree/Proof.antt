@@ -1,0 +1,33 @@
+-- `checks::rows_agree` meets its contract: each return is reached by the test that decides it.
+use native.Mathlib.Omega.{arith}
+use Rattle.row_lists.proofs.ListChecks.{words-disagree, leasts-disagree, first-disagree, second-decides}
+use Rattle.row_lists.proofs.checks.rows_agree.Statement.{statement}
+use Rattle.row_lists.proofs.checks.rows_agree.Tie as tie
+
+returns : tie.Need-returns
+returns c =
+    let a = c .before .args in
+    words-disagree (a .words) (a .rows) (a .leasts) (a .first) (a .second) (λ e. c .if1 .taken (omega arith))
+
+returns-2 : tie.Need-returns-2
+returns-2 c =
+    let a = c .before .before .args in
+    words-disagree (a .words) (a .rows) (a .leasts) (a .first) (a .second) (λ e. c .if2 .taken (omega arith))
+
+returns-3 : tie.Need-returns-3
+returns-3 c =
+    let a = c .before .before .before .args in
+    leasts-disagree (a .words) (a .rows) (a .leasts) (a .first) (a .second) (λ e. c .if3 .taken (omega arith))
+
+returns-4 : tie.Need-returns-4
+returns-4 c =
+    let a = c .before .before .before .before .args in
+    first-disagree (a .words) (a .rows) (a .leasts) (a .first) (a .second) (c .if4 .taken)
+
+returns-5 : tie.Need-returns-5
+returns-5 c =
+    let a = c .before .before .before .before .args in
+    second-decides (a .words) (a .rows) (a .leasts) (a .first) (a .second) (omega arith) (omega arith) (c .if4 .left)
+
+pub rows-agree-spec : {M : Type 1} → statement M
+rows-agree-spec = tie.close (tie.spec returns returns-2 returns-3 returns-4 returns-5)
