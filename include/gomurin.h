@@ -13,9 +13,12 @@
  * A word is GOMURIN_WORD_BYTES bytes, the X plane and then the Z plane; site q is bit q mod 8 of a plane's byte q div 8, least significant first. The
  * letters by (X bit, Z bit): I 00, Z 01, X 10, Y 11.
  *
- * Every call returns 0 for an answer, else the number of the first rule that its input breaks (below), and writes GOMURIN_VALUES numbers: what the rule
- * names, and zeros after it; zeros beside an answer. A refused call leaves lists (slices) as they were, but for 25; what else a call hands back
- * is then zeros, or a group or a walk that every call refuses. No call asks anything of its caller but that addresses and lengths are true.
+ * A phase table is two arrays of GOMURIN_PHASES numbers, the cosines and the sines of the steps of a turn, in units of 2^-30.
+ *
+ * Every call but gomurin_phase_table, which takes nothing that could be refused, returns 0 for an answer, else the number of the first rule that its input
+ * breaks (below), and writes GOMURIN_VALUES numbers: what the rule names, and zeros after it; zeros beside an answer. A refused call leaves lists (slices)
+ * as they were, but for 25; what else a call hands back is then zeros, or a group or a walk that every call refuses, or the constant phase table. No call
+ * asks anything of its caller but that addresses and lengths are true.
  *
  *   1 more than 256 sites                          17 a word bit at or above the site count (in a sum: its row)
  *   2 the generator list ends inside a generator   18 not one mode for each generator
@@ -34,6 +37,8 @@
  *  15 a word of other than 64 bytes                31 a sheet line of another form
  *  16 a word's site count is not the group's       32 a phase modulus that does not divide 720
  *                                                  33 a whole coefficient out of its range (row)
+ *                                                  34 a file of a phase table that is too long or of another form
+ *                                                  35 a phase table with a number out of its range or a broken rule
  */
 #ifndef GOMURIN_H
 #define GOMURIN_H
@@ -48,6 +53,8 @@
 #define GOMURIN_TARGETS 1024
 #define GOMURIN_MAX_ROWS 4096
 #define GOMURIN_MAX_COEFFICIENT 1048576
+#define GOMURIN_PHASES 720
+#define GOMURIN_MAX_FILE 65536
 #define GOMURIN_MAX_TABLE 262208
 #define GOMURIN_VALUES 4
 
@@ -171,6 +178,19 @@ size_t gomurin_canonicalize_in_sector(size_t sites, size_t generators, const uin
                                       uint8_t least[GOMURIN_WORD_BYTES], uint32_t *counter, size_t counter_length, size_t *size,
                                       bool *kept, size_t *dropped_by, size_t values[GOMURIN_VALUES]);
 
+/* ---- phase tables */
+
+/* The constant table: the cosine and the sine of each step of a turn, each rounded to the nearest whole number. */
+void gomurin_phase_table(int64_t cosines[GOMURIN_PHASES], int64_t sines[GOMURIN_PHASES]);
+
+/* The table that a file writes: the line `cos sin`, and a line `COS SIN` for each step, whole numbers in decimal parted by one space, with byte 10 after
+ * each line and nothing after the last. 34 is a file of more than GOMURIN_MAX_FILE bytes or of another form. 35 is a table with a number out of
+ * -2^30 .. 2^30, or one that breaks a rule: entry 0 is (2^30, 0); the entry a quarter turn on is the entry turned; in the first quarter the cosine falls
+ * and the sine rises; each entry times entry 1 is within 2^31 of 2^30 times the next one, and its squared length within 2^31 of 2^60. Beside a refusal the
+ * constant table is handed back, so that the two arrays are those of a table that every sum takes. */
+size_t gomurin_read_phase_table(const uint8_t *file, size_t file_length, int64_t cosines[GOMURIN_PHASES],
+                                int64_t sines[GOMURIN_PHASES], size_t values[GOMURIN_VALUES]);
+
 /* ---- level 3: sums */
 
 /* Folds a sum onto representatives: rows of GOMURIN_WORD_BYTES bytes and a coefficient each. The three output lists have as many rows; each output row
@@ -182,13 +202,15 @@ size_t gomurin_canonicalize_pauli_sum(size_t sites, size_t generators, const uin
                                       size_t representatives_length, double *sums, size_t sums_length, uint32_t *counts,
                                       size_t counts_length, size_t *rows, size_t values[GOMURIN_VALUES]);
 
-/* Projects a sum onto the sector of a mode list: rows of GOMURIN_WORD_BYTES bytes and a whole coefficient each, from -GOMURIN_MAX_COEFFICIENT to
- * GOMURIN_MAX_COEFFICIENT. The three output lists have as many rows; each output row is the representative of a kept orbit, and the sums over the rows
- * that have it of the coefficient times the cosine, and times the sine, of the row's phase: numerator / M of a turn, with M the phase modulus, for an
- * index that carries the representative to the row's word. Cosine and sine are in units of 2^-30, each rounded to the nearest whole number; the sums are
- * exact. Output rows stand in rising order of the words, zero sums stay, and zeros come after the last row. `kept` and `dropped` take how many input
- * rows have a kept orbit and how many a dropped one. If one is kept there is an output row; after the first, each has a word other than zeros. */
-size_t gomurin_project_pauli_sum(size_t sites, size_t generators, const uint32_t orders[GOMURIN_MAX_GENERATORS],
+/* Projects a sum onto the sector of a mode list, by a phase table: the constant one or one's own; one that breaks a rule is refused, 35, after 32 and
+ * before 22. Rows of GOMURIN_WORD_BYTES bytes and a whole coefficient each, from -GOMURIN_MAX_COEFFICIENT to GOMURIN_MAX_COEFFICIENT. The three output
+ * lists have as many rows; each output row is the representative of a kept orbit, and the sums over the rows that have it of the coefficient times the
+ * cosine, and times the sine, of the row's phase: numerator / M of a turn, with M the phase modulus, for an index that carries the representative to the
+ * row's word. Cosine and sine are the table's, in units of 2^-30; the sums are exact. Output rows stand in rising order of the words, zero sums stay, and
+ * zeros come after the last row. `kept` and `dropped` take how many input rows have a kept orbit and how many a dropped one. If one is kept there is an
+ * output row; after the first, each has a word other than zeros. */
+size_t gomurin_project_pauli_sum(const int64_t table_cosines[GOMURIN_PHASES], const int64_t table_sines[GOMURIN_PHASES],
+                                 size_t sites, size_t generators, const uint32_t orders[GOMURIN_MAX_GENERATORS],
                                  const uint32_t targets[GOMURIN_TARGETS], const int32_t *modes, size_t modes_length,
                                  const uint8_t *words, size_t words_length, const int64_t *coefficients,
                                  size_t coefficients_length, uint8_t *representatives, size_t representatives_length,

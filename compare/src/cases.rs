@@ -118,6 +118,15 @@ pub enum Line {
     Project,
     /// A projected sum with lists of these lengths: words, coefficients, representatives, cosines and sines.
     ProjectOf([usize; 5]),
+    /// The constant phase table.
+    PhaseTable,
+    PhaseFile(Vec<u8>),
+    /// One number of the phase table, to be overwritten.
+    SetPhase {
+        sine: bool,
+        entry: usize,
+        value: i64,
+    },
     Sheet {
         places: usize,
         text: Vec<u8>,
@@ -187,6 +196,9 @@ impl Display for Line {
             Line::SumOf(lengths) => write!(f, "sum{}", list(lengths)),
             Line::Project => write!(f, "project"),
             Line::ProjectOf(lengths) => write!(f, "project{}", list(lengths)),
+            Line::PhaseTable => write!(f, "phase_table"),
+            Line::PhaseFile(file) => write!(f, "{}", format!("phase_file {}", visible(file)).trim_end()),
+            Line::SetPhase { sine, entry, value } => write!(f, "set {} {entry} {value}", if *sine { "sine" } else { "cosine" }),
             Line::Sheet { places, text } => write!(f, "sheet_in {places} {}", visible(text)),
         }
     }

@@ -6,6 +6,7 @@ use crate::groups::{self, Bounds, Chosen, Generators, Permutation, cycles};
 use crate::random::Random;
 use crate::sheet;
 use crate::sizes::*;
+use crate::tables;
 use crate::words::{self, word_bytes};
 
 /// What is good: a torus of 3 by 2 sites and a word on it.
@@ -36,6 +37,8 @@ pub fn cases() -> Vec<Case> {
     cases.extend(sectors());
     cases.extend(sums());
     cases.extend(projections());
+    cases.extend(phase_tables());
+    cases.extend(phase_files());
     cases.extend(sheets());
     cases
 }
@@ -370,6 +373,76 @@ fn projections() -> Vec<Case> {
     let lengths = ROW_COUNTS.into_iter().flat_map(list_lengths).map(Line::ProjectOf).collect();
     let of_lengths = cross(&cross(&groups, &rows[..4]), &[lengths]);
     [of_rows.into_iter().map(asked).collect(), of_lengths].concat()
+}
+
+// ---- phase tables
+
+/// The constant table, another that keeps the rules, and tables that break one: a number off by one in one place, and numbers at the ends of 64 bits.
+fn some_tables() -> Vec<Case> {
+    let mut another = tables::constant();
+    tables::change(&mut another, 1, false, 1, 4);
+    let forged = |sine, entry, value| vec![Line::PhaseTable, Line::SetPhase { sine, entry, value }];
+    vec![
+        vec![Line::PhaseTable],
+        vec![Line::PhaseFile(tables::file(&tables::lines(&another)))],
+        forged(false, 1, tables::constant()[0][1] + 1),
+        forged(false, 0, i64::MAX),
+        forged(true, 719, i64::MIN),
+    ]
+}
+
+/// Every kind of table under every group value and mode list, with some kinds of rows, and with lists of all lengths.
+fn phase_tables() -> Vec<Case> {
+    let groups = cross(&some_tables(), &cross(&turned_groups(), &mode_lists()));
+    let rows = cross(&[vec![Line::Clear]], &whole_rows()[..12]);
+    let of_rows = cross(&cross(&groups, &rows), &[vec![Line::Project]]);
+    let lengths = ROW_COUNTS.into_iter().flat_map(list_lengths).map(Line::ProjectOf).collect();
+    [of_rows, cross(&cross(&groups, &rows[..2]), &[lengths])].concat()
+}
+
+/// What may stand in a line of a file: faults of the form, and numbers out of their range or that break a rule.
+#[rustfmt::skip]
+const ENTRIES: [&str; 36] = [
+    "", " ", "0", "0 ", " 0", "0  0", "0 0 ", " 0 0", "0 0 0", "0\t0", "0,0", "0 0\r", "\r", "00 0", "0 00", "01 0", "-0 0", "0 -0", "-01 0", "0 +1", "-",
+    "- 0", "0 -", "--1 0", "1- 0", "x 0", "1.0 0", "0x1 0", "1e3 0", "cos sin", "0 0", "1073741824 0", "1073741825 0", "0 -1073741825",
+    "9223372036854775808 0", "0 -18446744073709551616",
+];
+
+/// What may stand in the line of names.
+const NAMES: [&str; 10] = ["", "cos", "sin cos", "cos  sin", "cos sin ", " cos sin", "Cos sin", "cos\tsin", "cos sin\r", "cos sin tan"];
+
+/// A file by its lines, with line i another.
+fn with_line(i: usize, line: &str) -> Vec<u8> {
+    let mut lines = tables::lines(&tables::constant());
+    lines[i] = line.to_string();
+    tables::file(&lines)
+}
+
+/// Files: every fault in the first, the second, a middle and the last line; two faults; lines too few or too many; cut ends; numbers of many digits, and
+/// files at the limit of bytes. Each after another table was in force.
+fn phase_files() -> Vec<Case> {
+    let whole = tables::lines(&tables::constant());
+    let long = "9".repeat(300);
+    let mut files: Vec<Vec<u8>> = NAMES.iter().map(|names| with_line(0, names)).collect();
+    for i in [1, 2, 361, PHASES] {
+        files.extend(ENTRIES.iter().map(|entry| with_line(i, entry)));
+        files.extend([format!("{long} 0"), format!("0 -{long}")].map(|entry| with_line(i, &entry)));
+    }
+    let (one, two) = (with_line(1, "1073741825 0"), with_line(PHASES, "0 00"));
+    let middle = one.len() / 2;
+    files.push([&one[..middle], &two[two.len() - (one.len() - middle)..]].concat());
+    for count in [0, 1, 2, PHASES - 1, PHASES, PHASES + 1] {
+        files.push(tables::file(&whole[..count]));
+    }
+    files.push([tables::file(&whole), b"0 0\n".to_vec()].concat());
+    files.push([tables::file(&whole), b"\n".to_vec()].concat());
+    let file = tables::file(&whole);
+    files.extend([1, 2, 3, 12].map(|bytes| file[..file.len() - bytes].to_vec()));
+    let padded = |bytes: usize| with_line(2, &format!("{} 0", "7".repeat(bytes - with_line(2, " 0").len())));
+    files.extend([MAX_FILE - 1, MAX_FILE, MAX_FILE + 1].map(padded));
+    files.extend([MAX_FILE, MAX_FILE + 1].map(|bytes| vec![b'\n'; bytes]));
+    let cases = files.into_iter().map(|file| vec![Line::PhaseFile(file)]).collect::<Vec<Case>>();
+    cross(&some_tables()[..2], &cases)
 }
 
 // ---- sheets

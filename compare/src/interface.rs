@@ -45,13 +45,16 @@ unsafe extern "C" {
     pub fn gomurin_canonicalize_in_sector(sites: usize, generators: usize, orders: *const u32, targets: *const u32, n: usize,
         word: *const u8, word_length: usize, modes: *const i32, modes_length: usize, least: *mut u8, counter: *mut u32,
         counter_length: usize, size: *mut usize, kept: *mut u8, dropped_by: *mut usize, values: *mut usize) -> usize;
+    pub fn gomurin_phase_table(cosines: *mut i64, sines: *mut i64);
+    pub fn gomurin_read_phase_table(file: *const u8, file_length: usize, cosines: *mut i64, sines: *mut i64, values: *mut usize) -> usize;
     pub fn gomurin_canonicalize_pauli_sum(sites: usize, generators: usize, orders: *const u32, targets: *const u32, words: *const u8,
         words_length: usize, coefficients: *const f64, coefficients_length: usize, representatives: *mut u8, representatives_length: usize,
         sums: *mut f64, sums_length: usize, counts: *mut u32, counts_length: usize, rows: *mut usize, values: *mut usize) -> usize;
-    pub fn gomurin_project_pauli_sum(sites: usize, generators: usize, orders: *const u32, targets: *const u32, modes: *const i32,
-        modes_length: usize, words: *const u8, words_length: usize, coefficients: *const i64, coefficients_length: usize,
-        representatives: *mut u8, representatives_length: usize, cosines: *mut i64, cosines_length: usize, sines: *mut i64,
-        sines_length: usize, kept: *mut usize, dropped: *mut usize, values: *mut usize) -> usize;
+    pub fn gomurin_project_pauli_sum(table_cosines: *const i64, table_sines: *const i64, sites: usize, generators: usize,
+        orders: *const u32, targets: *const u32, modes: *const i32, modes_length: usize, words: *const u8, words_length: usize,
+        coefficients: *const i64, coefficients_length: usize, representatives: *mut u8, representatives_length: usize,
+        cosines: *mut i64, cosines_length: usize, sines: *mut i64, sines_length: usize, kept: *mut usize, dropped: *mut usize,
+        values: *mut usize) -> usize;
     pub fn gomurin_sheet(input: *const u8, input_length: usize, list: *mut u8, list_length: usize, written: *mut usize,
         values: *mut usize) -> usize;
 }

@@ -19,6 +19,7 @@ mod sectors;
 mod sheet;
 mod sizes;
 mod sums;
+mod tables;
 mod words;
 
 use std::process::ExitCode;

@@ -4,6 +4,7 @@ use crate::cases::*;
 use crate::guard::{FILL, Lent, Memory, Side};
 use crate::interface::*;
 use crate::sizes::*;
+use crate::tables::{self, Table};
 use std::cmp::Ordering;
 
 /// What is in force between the lines of a case.
@@ -17,6 +18,7 @@ pub struct Ours {
     words: Vec<u8>,
     coefficients: Vec<f64>,
     wholes: Vec<i64>,
+    table: Table,
 }
 
 struct Walk {
@@ -35,8 +37,10 @@ struct GroupRoom {
 
 impl Ours {
     pub fn new(side: Side) -> Ours {
+        let mut memory = Memory::new(side);
+        let table = phase_table(&mut memory);
         Ours {
-            memory: Memory::new(side),
+            memory,
             group: Group::EMPTY,
             sites: 0,
             word: Vec::new(),
@@ -45,6 +49,7 @@ impl Ours {
             words: Vec::new(),
             coefficients: Vec::new(),
             wholes: Vec::new(),
+            table,
         }
     }
 
@@ -93,6 +98,9 @@ impl Ours {
             Line::SumOf(lengths) => self.canonicalize_pauli_sum(*lengths),
             Line::Project => self.project_pauli_sum(sum_lengths(self.wholes.len())),
             Line::ProjectOf(lengths) => self.project_pauli_sum(*lengths),
+            Line::PhaseTable => set(|| self.table = phase_table(&mut self.memory)),
+            Line::PhaseFile(file) => self.read_phase_table(file),
+            Line::SetPhase { sine, entry, value } => set(|| self.table[usize::from(*sine)][*entry] = *value),
             Line::Sheet { places, text } => self.sheet(*places, text),
         }
     }
@@ -363,6 +371,15 @@ impl Ours {
             + if after == [true; 3] { "" } else { " and more after them" }
     }
 
+    /// The table that is handed back is in force.
+    fn read_phase_table(&mut self, file: &[u8]) -> String {
+        let m = &mut self.memory;
+        let (file, cosines, sines, values) = (m.lend(file), m.room::<i64>(PHASES), m.room::<i64>(PHASES), m.room(VALUES));
+        let rule = unsafe { gomurin_read_phase_table(file.at, file.length, cosines.at, sines.at, values.at) };
+        self.table = [cosines.get().to_vec(), sines.get().to_vec()];
+        said(rule, values, &[], || "accepted".to_string()) + tables::told(&self.table)
+    }
+
     /// The lengths are those of the words, coefficients, representatives, cosines and sines.
     fn project_pauli_sum(&mut self, lengths: [usize; 5]) -> String {
         let (mut words, mut wholes) = (self.words.clone(), self.wholes.clone());
@@ -373,25 +390,32 @@ impl Ours {
         let (words, coefficients) = (m.lend(&words), m.lend(&wholes));
         let (representatives, cosines, sines) = (m.room::<u8>(lengths[2]), m.room::<i64>(lengths[3]), m.room::<i64>(lengths[4]));
         let (kept, dropped, values) = (m.room::<usize>(1), m.room::<usize>(1), m.room(VALUES));
-        let rule = call_of_group!(
-            gomurin_project_pauli_sum,
-            group,
-            modes.at,
-            modes.length,
-            words.at,
-            words.length,
-            coefficients.at,
-            coefficients.length,
-            representatives.at,
-            representatives.length,
-            cosines.at,
-            cosines.length,
-            sines.at,
-            sines.length,
-            kept.at,
-            dropped.at,
-            values.at
-        );
+        let (table_cosines, table_sines) = (m.lend(&self.table[0]), m.lend(&self.table[1]));
+        let rule = unsafe {
+            gomurin_project_pauli_sum(
+                table_cosines.at,
+                table_sines.at,
+                group.sites,
+                group.generators,
+                group.orders,
+                group.targets,
+                modes.at,
+                modes.length,
+                words.at,
+                words.length,
+                coefficients.at,
+                coefficients.length,
+                representatives.at,
+                representatives.length,
+                cosines.at,
+                cosines.length,
+                sines.at,
+                sines.length,
+                kept.at,
+                dropped.at,
+                values.at,
+            )
+        };
         if rule != 0 {
             let stayed = filled(representatives) && filled(cosines) && filled(sines);
             let named = values_named(rule) + usize::from(rule == 17);
@@ -495,4 +519,11 @@ fn filled<T: Copy>(lent: Lent<T>) -> bool {
 fn part<T: Copy>(lent: Lent<T>, from: usize) -> Lent<T> {
     let from = from.min(lent.length);
     Lent { at: unsafe { lent.at.add(from) }, length: lent.length - from }
+}
+
+/// The constant phase table.
+fn phase_table(memory: &mut Memory) -> Table {
+    let (cosines, sines) = (memory.room::<i64>(PHASES), memory.room::<i64>(PHASES));
+    unsafe { gomurin_phase_table(cosines.at, sines.at) };
+    [cosines.get().to_vec(), sines.get().to_vec()]
 }

@@ -6,7 +6,7 @@ use crate::guard::{self, Side};
 use crate::ours::Ours;
 use crate::random::Random;
 use crate::rust::Rust;
-use crate::{example, exhaustive, groups, guarded, orbits, projections, sectors, sums, words};
+use crate::{example, exhaustive, groups, guarded, orbits, projections, sectors, sums, tables, words};
 use std::time::Instant;
 
 struct Part {
@@ -55,6 +55,7 @@ fn parts(seed: u64, count: usize) -> Vec<Part> {
         random("sectors", 2_000, Bounds::common, sectors::case),
         random("sums", 500, Bounds::common, sums::case),
         random("projections", 500, Bounds::common, projections::case),
+        random("tables", 250, Bounds::common, tables::case),
         random("forged", 500, Bounds::common, guarded::forged_case),
         random("large", 2, |_| Bounds::ALL, orbits::large_case),
         listed("exhaustive", exhaustive::cases()),

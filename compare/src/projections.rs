@@ -7,23 +7,17 @@ use crate::random::Random;
 use crate::rust::{Row, Word, word};
 use crate::sizes::*;
 use crate::sums::moved;
+use crate::tables::Table;
 use crate::{sectors, words};
 use ppvm_pauli_sum::symmetry::group::TranslationGroup;
 use ppvm_pauli_sum::symmetry::inner;
 use std::collections::BTreeMap;
-use std::f64::consts::TAU;
 
 /// The number that stands for 1.
-const UNIT: f64 = (1 << 30) as f64;
+pub const UNIT: i64 = 1 << 30;
 
-/// Cosine and sine of an entry, each the nearest whole number of units: none is so near to a tie that a float could miss it.
-fn phase(entry: usize) -> [i128; 2] {
-    let angle = TAU * entry as f64 / PHASES as f64;
-    [angle.cos(), angle.sin()].map(|part| (part * UNIT).round() as i128)
-}
-
-/// How many rows are kept, and the representatives of these with their sums, in rising order.
-pub fn project(group: &TranslationGroup, modes: &[i32], rows: &[Row]) -> (usize, BTreeMap<Word, [i128; 2]>) {
+/// By a phase table: how many rows are kept, and the representatives of these with their sums, in rising order.
+pub fn project(table: &Table, group: &TranslationGroup, modes: &[i32], rows: &[Row]) -> (usize, BTreeMap<Word, [i128; 2]>) {
     let mut kept = 0;
     let mut sums = BTreeMap::new();
     for row in rows {
@@ -33,9 +27,9 @@ pub fn project(group: &TranslationGroup, modes: &[i32], rows: &[Row]) -> (usize,
         }
         kept += 1;
         let representative = group.canonicalize(&word);
-        let parts = phase(entry(group, modes, &representative, &word));
+        let entry = entry(group, modes, &representative, &word);
         let sum = sums.entry(representative).or_insert([0; 2]);
-        *sum = [0, 1].map(|i| sum[i] + i128::from(row.whole) * parts[i]);
+        *sum = [0, 1].map(|i| sum[i] + i128::from(row.whole) * i128::from(table[i][entry]));
     }
     (kept, sums)
 }

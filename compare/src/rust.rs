@@ -5,6 +5,7 @@ use crate::guard::FILL;
 use crate::projections;
 use crate::sheet;
 use crate::sizes::*;
+use crate::tables::{self, Table};
 use ppvm_pauli_sum::symmetry::group::{GroupError, TranslationGroup};
 use ppvm_pauli_sum::symmetry::{inner, merge, momentum};
 use ppvm_pauli_word::word::PauliWord;
@@ -24,6 +25,7 @@ pub struct Rust {
     modes: Vec<i32>,
     walk: Walk,
     rows: Vec<Row>,
+    table: Table,
 }
 
 /// A row of a sum: a word with a coefficient as a float and one as a whole number; one of the two is 0.
@@ -51,7 +53,7 @@ impl Rust {
     pub fn new() -> Rust {
         let group = Made::of(Group::EMPTY);
         let walk = Walk { group: group.clone(), at: vec![0; WORD_BYTES], index: 0 };
-        Rust { group, sites: 0, word: Vec::new(), modes: Vec::new(), walk, rows: Vec::new() }
+        Rust { group, sites: 0, word: Vec::new(), modes: Vec::new(), walk, rows: Vec::new(), table: tables::constant() }
     }
 
     /// The Rust's group in force, if there is one.
@@ -95,6 +97,9 @@ impl Rust {
             Line::SumOf(lengths) => self.canonicalize_pauli_sum(*lengths),
             Line::Project => self.project_pauli_sum(sum_lengths(self.rows.len())),
             Line::ProjectOf(lengths) => self.project_pauli_sum(*lengths),
+            Line::PhaseTable => set(|| self.table = tables::constant()),
+            Line::PhaseFile(file) => self.read_phase_table(file),
+            Line::SetPhase { sine, entry, value } => set(|| self.table[usize::from(*sine)][*entry] = *value),
             Line::Sheet { places, text } => sheet::answer(*places, text),
         }
     }
@@ -300,6 +305,13 @@ impl Rust {
         taken
     }
 
+    /// The table that stands afterwards is in force.
+    fn read_phase_table(&mut self, file: &[u8]) -> String {
+        let read = tables::read(file);
+        self.table = read.clone().unwrap_or_else(|_| tables::constant());
+        said(read.map(|_| "accepted".to_string())) + tables::told(&self.table)
+    }
+
     fn project_pauli_sum(&self, lengths: [usize; 5]) -> String {
         self.project(lengths).unwrap_or_else(|refusal| format!("{refusal}, as they were"))
     }
@@ -310,6 +322,7 @@ impl Rust {
         let rows = lengths[1];
         check(18, self.modes.len() != group.n_generators())?;
         check(32, !PHASES.is_multiple_of(inner::phase_modulus(group)))?;
+        check(35, !tables::passes(&self.table))?;
         check(22, lengths != sum_lengths(rows))?;
         check(23, rows > MAX_ROWS)?;
         let taken = self.taken(rows);
@@ -317,7 +330,7 @@ impl Rust {
             check_row(17, i, has_bit_above(group.n_qubits(), &row.word))?;
             check_row(33, i, !(-MAX_COEFFICIENT..=MAX_COEFFICIENT).contains(&row.whole))?;
         }
-        let (kept, sums) = projections::project(group, &self.modes, &taken);
+        let (kept, sums) = projections::project(&self.table, group, &self.modes, &taken);
         Ok(projected(kept, rows - kept, sums.iter().map(|(word, [cosine, sine])| (text(word), *cosine, *sine))))
     }
 }

@@ -18,6 +18,8 @@ pub const MAX_ROWS: usize = 4096;
 pub const MAX_COEFFICIENT: i64 = 1 << 20;
 /// Entries of the table of phases: a turn has so many steps.
 pub const PHASES: usize = 720;
+/// Bytes of the file of a phase table, at most.
+pub const MAX_FILE: usize = 65_536;
 /// Bytes of a sheet, at most.
 pub const MAX_SHEET: usize = 65_536;
 /// Bytes that suffice for the table of any sheet.

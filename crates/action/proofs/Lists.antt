@@ -1,7 +1,7 @@
 -- Members of lists, lists without repeats, and counting.
 -- The fact that carries the counting: a list without repeats is no longer than a list that holds its members (`length-le`).
-use Prim.Native.Nat.{ℕ, zero, suc, _+_, _*_, _≤_, _<_}
-use native.Mathlib.Nat.{le-antisymm, eq-or-lt-of-le, not-suc-le-zero}
+use Prim.Native.Nat.{ℕ, zero, suc, _+_, _*_, _≤_, _<_, suc-le-suc}
+use native.Mathlib.Nat.{le-antisymm, eq-or-lt-of-le, le-of-suc-le-suc, not-suc-le-zero, suc-mul, zero-lt-suc}
 use native.Mathlib.Omega.{arith}
 use mathlib.Core.Path.{_≡_, refl, sym, _∙_, ap, ap₂, subst}
 use mathlib.Core.Logic.{_⊎_, inl, inr, ⊎-elim}
@@ -96,6 +96,17 @@ pub sameNumbers-refl : (xs : List ℕ) → sameNumbers xs xs ≡ true
 unfolding sameNumbers
 sameNumbers-refl [] = refl
 sameNumbers-refl (x ∷ xs) = and-eq-true-iff (eqb x x) (sameNumbers xs xs) .1 (eq-eqb x x refl, sameNumbers-refl xs)
+
+-- a member stands at a place, and what stands at a place is a member
+pub member-at : {A : Type 0} (xs : List A) (d : A) (g : ℕ) → g < length xs → Member (getD xs g d) xs
+member-at [] d g l = absurd (not-suc-le-zero l)
+member-at (x ∷ xs) d zero l = inl refl
+member-at (x ∷ xs) d (suc g) l = inr (member-at xs d g (le-of-suc-le-suc l))
+
+pub of-member-at : {A : Type 0} (xs : List A) (d a : A) → Member a xs → (g : ℕ) × (g < length xs) × (a ≡ getD xs g d)
+of-member-at [] d a m = absurd m
+of-member-at (x ∷ xs) d a (inl e) = (0, zero-lt-suc (length xs), e)
+of-member-at (x ∷ xs) d a (inr m) = let (g, l, e) = of-member-at xs d a m in (suc g, suc-le-suc l, e)
 
 module _ {A : Type 0} where
   pub member-append-left : (xs ys : List A) (a : A) → Member a xs → Member a (xs ++ ys)
@@ -214,6 +225,14 @@ module _ {A : Type 0} where
   unfolding total
   total-const c [] = omega arith
   total-const c (a ∷ xs) = omega (arith, total-const c xs)
+
+  pub total-within : (f : A → ℕ) (c : ℕ) (xs : List A) → ((a : A) → Member a xs → f a ≤ c) → total f xs ≤ length xs * c
+  unfolding total
+  total-within f c [] h = omega arith
+  total-within f c (a ∷ xs) h =
+      let here = h a (inl refl) in
+      let later = total-within f c xs (λ b m. h b (inr m)) in
+      omega (arith, suc-mul (length xs) c)
 
   pub total-append : (f : A → ℕ) (xs ys : List A) → total f (xs ++ ys) ≡ total f xs + total f ys
   unfolding total

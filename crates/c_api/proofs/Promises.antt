@@ -1,7 +1,9 @@
 -- What is promised of the calls for C beyond their contracts: 0 is returned for an answer alone; no value of a rule is lost; a refused beginning of a walk
--- hands back a word and an index that `gomurin_next` refuses, whatever the group beside them; and what each definition says of an example.
+-- hands back a word and an index that `gomurin_next` refuses, whatever the group beside them; the two lists of a phase table that a call hands back pass;
+-- and what each definition says of an example.
 use Prim.Native.Nat.{ℕ, suc, _<_}
 use mathlib.Core.Path.{_≡_, refl, ap}
+use mathlib.Core.Logic.{inl, inr}
 use mathlib.Core.Bool.{Bool, true, false, not, _&&_}
 use mathlib.Core.List.{List, [], _∷_, map}
 use native.Mathlib.Omega.{arith}
@@ -15,17 +17,24 @@ use Rattle.outcome.specs.declared.Number.{Number}
 use Rattle.outcome.specs.declared.Number.the-variants as Number
 use Rattle.outcome.specs.declared.Verdict.{Verdict}
 use Rattle.outcome.specs.declared.Verdict.the-variants as Verdict
-use Rattle.outcome.specs.Outcome.{Outcome, answer, refused, answers, ruleNumber, ruleValues, outcomeOfNumber, outcomeOfVerdict}
+use Rattle.outcome.specs.Outcome.{Outcome, answer, refused, answers, rule, unless, ruleNumber, ruleValues, outcomeOfNumber, outcomeOfVerdict}
 use Rattle.pauli_word.specs.declared.Ordering.the-variants.{Less, Same, Greater}
 use Rattle.pauli_word.specs.Limits.{maxSites}
 use Rattle.pauli_word.specs.Calls.{clearAbove}
 use Rattle.permutation.specs.Limits.{maxGenerators, maxOrder, targetPlaces}
+use Rattle.action.specs.Lists.{Member}
 use Rattle.action.specs.Index.{orderOf}
 use Rattle.group.specs.declared.Group.{Group}
 use Rattle.group.specs.Value.{generatorsOf, isGroup}
 use Rattle.group.proofs.Accepted.{accepted-by, accepted-tables}
 use Rattle.orbit.specs.Calls.{isWalk, noWord, noWalk, nextOutcome, entry, finished}
 use Rattle.momentum.specs.Calls.{kept, dropped}
+use Rattle.text.specs.Text.{lineEnd, pieces}
+use Rattle.phases.specs.Table.{phaseTable}
+use Rattle.phases.specs.Rules.{tableOf, passes}
+use Rattle.phases.proofs.Constant.{constant-passes}
+use Rattle.phase_file.specs.File.{maxFile, isFile, tableIn, fileOutcome, tableAfter}
+use Rattle.phase_file.proofs.Promises.{after-passes}
 use Rattle.project.specs.Calls.{ProjectedSum, countsOf}
 use Rattle.sheet_text.specs.Sheet.{Page, tablePage, refusalPage}
 use Rattle.c_api.specs.Told.{placed, numberOf, valuesOf, walkIn, signOf, indexOfEntry, isFinished, sizeIn, isKept, dropIndex, keptIn, droppedIn, rowsKept, rowsDropped, pageNumber, pageValues, pageLength}
@@ -67,6 +76,8 @@ rule-positive Refusal.SheetLength = omega arith
 rule-positive Refusal.LineForm = omega arith
 rule-positive Refusal.PhaseModulus = omega arith
 rule-positive (Refusal.CoefficientRange a) = omega arith
+rule-positive Refusal.PhaseForm = omega arith
+rule-positive Refusal.PhaseRule = omega arith
 
 pub zero-number : (n : Number) → numberOf (outcomeOfNumber n) ≡ 0 → answers (outcomeOfNumber n) ≡ true
 zero-number (Number.Value k) e = refl
@@ -113,6 +124,8 @@ values-whole Refusal.SheetLength line = refl
 values-whole Refusal.LineForm line = refl
 values-whole Refusal.PhaseModulus line = refl
 values-whole (Refusal.CoefficientRange a) line = refl
+values-whole Refusal.PhaseForm line = refl
+values-whole Refusal.PhaseRule line = refl
 
 -- ---- 3 A refused beginning of a walk
 
@@ -140,7 +153,32 @@ module _ (g : Group) (targets : length (g .targets) ≡ targetPlaces) (orders : 
       go true e = rw e
       go false e = rw (e, past-end e)
 
--- ---- 4 Examples: what each definition says
+-- ---- 4 Phase tables: a file that is read returns 0, 34 or 35; and the lists that are handed back, whatever the file holds, are those of a table that
+-- passes, as the constant lists are, so that no sum with them is refused by 35 (`passing-by` of project)
+
+pub constant-lists : passes (tableOf (phaseTable .cosines) (phaseTable .sines)) ≡ true
+constant-lists = constant-passes
+
+three :
+    {A : Type 0} (long other broken : Bool) (t : A)
+    → let checks = rule Refusal.PhaseForm long ∷ rule Refusal.PhaseForm other ∷ rule Refusal.PhaseRule broken ∷ [] in
+    Member (numberOf (unless checks (answer t))) (0 ∷ 34 ∷ 35 ∷ [])
+three true other broken t = inr (inl refl)
+three false true broken t = inr (inl refl)
+three false false true t = inr (inr (inl refl))
+three false false false t = inl refl
+
+module _ (file : List ℕ) where
+  pub read-lists : passes (tableOf (tableAfter (fileOutcome file) .cosines) (tableAfter (fileOutcome file) .sines)) ≡ true
+  read-lists = after-passes file
+
+  pub read-number : Member (numberOf (fileOutcome file)) (0 ∷ 34 ∷ 35 ∷ [])
+  unfolding fileOutcome
+  read-number =
+      let lines = pieces lineEnd file in
+      three (ltb maxFile (length file)) (not (isFile lines)) (not (passes (tableIn lines))) (tableIn lines)
+
+-- ---- 5 Examples: what each definition says
 
 pub numbers : map (numberOf {A = ℕ}) (refused 14 [] ∷ refused 10 (0 ∷ 2 ∷ 4 ∷ []) ∷ answer 7 ∷ []) ≡ 14 ∷ 10 ∷ 0 ∷ []
 numbers = refl

@@ -5,6 +5,7 @@ ghost use mathlib.Core.List.{[], _∷_};
 ghost use Rattle.outcome.specs.Outcome.{ruleNumber, ruleValues, outcomeOfNumber, outcomeOfVerdict, orElse, itself};
 ghost use Rattle.orbit.specs.Calls.{outcomeOfStep};
 ghost use Rattle.momentum.specs.Calls.{outcomeOfSector};
+ghost use Rattle.phases.specs.Rules.{tableOf};
 ghost use Rattle.project.specs.Calls.{outcomeOfProjection};
 ghost use Rattle.c_api.specs.Told.{placed, numberOf, valuesOf, groupIn, walkIn, indexOfEntry, isFinished, sizeIn, isKept, dropIndex, keptIn, droppedIn};
 use crate::VALUES;
@@ -19,6 +20,8 @@ use outcome::Verdict;
 use pauli_word::WORD_BYTES;
 use permutation::MAX_GENERATORS;
 use permutation::TARGET_PLACES;
+use phases::PHASES;
+use phases::PhaseTable;
 use project::Projection;
 
 // The group of four parts.
@@ -36,6 +39,27 @@ pub fn group_in(
         orders: *orders,
         targets: *targets,
     }
+}
+
+// The phase table of two lists.
+pub fn table_in(cosines: &[i64; PHASES], sines: &[i64; PHASES]) -> PhaseTable
+    ensures { λ r. ⌜ r ≡ tableOf (now (cosines .entry)) (now (sines .entry)) ⌝ }
+{
+    PhaseTable {
+        cosines: *cosines,
+        sines: *sines,
+    }
+}
+
+// A phase table in its two lists.
+pub fn table(value: PhaseTable, cosines: &mut [i64; PHASES], sines: &mut [i64; PHASES])
+    ensures cosines { λ _. ⌜ now (cosines .exit) ≡ value .cosines ⌝ }
+    ensures sines { λ _. ⌜ now (sines .exit) ≡ value .sines ⌝ }
+{
+    let along = value.cosines;
+    *cosines = along;
+    let across = value.sines;
+    *sines = across;
 }
 
 // What a rule names, in its places, zeros after it.
@@ -77,6 +101,8 @@ fn rule_values(why: Refusal) -> [usize; VALUES]
         Refusal::LineForm => [0, 0, 0, 0],
         Refusal::PhaseModulus => [0, 0, 0, 0],
         Refusal::CoefficientRange(a) => [a, 0, 0, 0],
+        Refusal::PhaseForm => [0, 0, 0, 0],
+        Refusal::PhaseRule => [0, 0, 0, 0],
     }
 }
 

@@ -7,9 +7,11 @@ use case_text::sizes::ROW_BYTES;
 use case_text::sizes::ROW_ROOM;
 use case_text::sizes::Sizes;
 use group::Group;
+use phases::PhaseTable;
 
-// Projects the first `count` rows, or lists of the lengths that a line gives.
+// Projects the first `count` rows by a table, or lists of the lengths that a line gives.
 pub fn project(
+    table: PhaseTable,
     g: Group,
     modes: &[i32],
     n: usize,
@@ -27,15 +29,23 @@ pub fn project(
     if wholes.len() < rows {
         return lines::byte(b'?');
     }
-    project_into(g, modes, sizes, &words[0..bytes], &wholes[0..rows]);
+    project_into(table, g, modes, sizes, &words[0..bytes], &wholes[0..rows]);
 }
 
 // The output lists are all nines before.
-fn project_into(g: Group, modes: &[i32], sizes: Sizes, words: &[u8], wholes: &[i64]) {
+fn project_into(
+    table: PhaseTable,
+    g: Group,
+    modes: &[i32],
+    sizes: Sizes,
+    words: &[u8],
+    wholes: &[i64],
+) {
     let mut representatives = [9u8; ROW_BYTES];
     let mut cosines = [9i64; ROW_ROOM];
     let mut sines = [9i64; ROW_ROOM];
     project_in(
+        table,
         g,
         modes,
         sizes,
@@ -48,6 +58,7 @@ fn project_into(g: Group, modes: &[i32], sizes: Sizes, words: &[u8], wholes: &[i
 }
 
 fn project_in(
+    table: PhaseTable,
     g: Group,
     modes: &[i32],
     sizes: Sizes,
@@ -70,6 +81,7 @@ fn project_in(
         return lines::byte(b'?');
     }
     call(
+        table,
         g,
         modes,
         sizes,
@@ -82,6 +94,7 @@ fn project_in(
 }
 
 fn call(
+    table: PhaseTable,
     g: Group,
     modes: &[i32],
     sizes: Sizes,
@@ -92,6 +105,7 @@ fn call(
     sines: &mut [i64],
 ) {
     let answer = project::project_pauli_sum(
+        table,
         g,
         modes,
         words,

@@ -41,7 +41,7 @@ fn in_list(rest: &[u8]) {
 
 fn sheet(kind: usize, k: usize, text: &[u8]) {
     let mut input = [0u8; SHEET_ROOM];
-    let length = texts::expand(text, &mut input);
+    let length = texts::expand(text, &mut input, 0);
     if length < SHEET_ROOM {
         print(kind, k, &input[0..length]);
     } else {

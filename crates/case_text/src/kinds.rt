@@ -1,5 +1,5 @@
 // The kinds of lines, by their names: those that put something in force, from ORDER on those that ask,
-// from SHEET on the sheets, and from CLEAR on the sums.
+// from SHEET on the sheets, from CLEAR on the sums, and from PHASE_TABLE on the phase tables.
 use crate::fields;
 
 pub const GROUP: usize = 0;
@@ -84,12 +84,18 @@ pub const PROJECT: usize = 39;
 
 pub const PROJECT_AT: usize = 40;
 
+pub const PHASE_TABLE: usize = 41;
+
+pub const PHASE_FILE: usize = 42;
+
+pub const PHASE: usize = 43;
+
 // The kind of a name; a number above all kinds where there is none.
 pub fn of(name: &[u8]) -> usize {
     let names = b" group chain ladder torus2 torus3 set word bytes modes orbit next order modulus \
         invert targets text weight compare compare_text canonicalize with_index orbit_list \
         numerator table counter with_shift sector beside sheet sheet_end sheet_in clear row \
-        rows whole wholes numbered sum sum_at project project_at";
+        rows whole wholes numbered sum sum_at project project_at phase_table phase_file phase";
     place(name, names)
 }
 
@@ -111,12 +117,26 @@ pub fn place(name: &[u8], names: &[u8]) -> usize {
 // Whether a line of a kind may have so many numbers after its name.
 pub fn has_form(kind: usize, count: usize) -> bool {
     match kind {
-        ORBIT | CLEAR | ORDER | MODULUS | TARGETS | TEXT | WEIGHT | CANONICALIZE | WITH_INDEX => {
-            count == 0
-        }
-        CHAIN | NEXT | NUMBERED | INVERT | WITH_SHIFT | ORBIT_LIST | TABLE | SECTOR | BESIDE => {
-            count == 1
-        }
+        ORBIT
+        | CLEAR
+        | ORDER
+        | MODULUS
+        | TARGETS
+        | TEXT
+        | WEIGHT
+        | CANONICALIZE
+        | WITH_INDEX
+        | PHASE_TABLE => count == 0,
+        CHAIN
+        | NEXT
+        | NUMBERED
+        | INVERT
+        | WITH_SHIFT
+        | ORBIT_LIST
+        | TABLE
+        | SECTOR
+        | BESIDE
+        | PHASE => count == 1,
         LADDER | TORUS2 | COUNTER | SUM_AT | PROJECT_AT => count == 2,
         TORUS3 => count == 3,
         SUM | PROJECT => count == 0 || count == 5,

@@ -1,4 +1,4 @@
-// Bytes into lists, and the sheet that a text stands for: `|` is byte 10, `\HH` the byte of two hexadecimal digits, `{K:TEXT}` K times TEXT, in
+// Bytes into lists, and the sheet or file that a text stands for: `|` is byte 10, `\HH` the byte of two hexadecimal digits, `{K:TEXT}` K times TEXT, in
 // which bars are byte 10 too. Whatever else stands for itself.
 ghost use Prim.Native.Nat.{_<_, _≤_};
 ghost use lib.ListN.{length};
@@ -48,9 +48,9 @@ pub fn after_space(text: &[u8]) -> &[u8] {
     text
 }
 
-// Writes what a text stands for at the front of a list; its length.
-pub fn expand(text: &[u8], list: &mut [u8]) -> usize {
-    let mut place = 0;
+// Writes what a text stands for at a place of a list; the place after it.
+pub fn expand(text: &[u8], list: &mut [u8], start: usize) -> usize {
+    let mut place = start;
     let mut at = 0;
     while at < text.len() {
         let rest = &text[at..];

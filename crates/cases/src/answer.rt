@@ -84,6 +84,7 @@ fn of_kind(
             summed(s, kind, args, words, coefficients, wholes);
             s
         }
+        kinds::PHASE_TABLE..=kinds::PHASE => phased(s, kind, rest, args),
         _ => s.other(),
     }
 }
@@ -138,6 +139,13 @@ fn walked(mut s: State, kind: usize, count: usize) -> State {
     s
 }
 
+// The lines on phase tables.
+fn phased(mut s: State, kind: usize, rest: &[u8], args: Args) -> State {
+    let t = case_phases::answer(s.phases, kind, rest, args);
+    s.phases = t;
+    s
+}
+
 // The lines that ask.
 fn ask(s: State, kind: usize, rest: &[u8], args: Args) {
     let bytes = s.word.bytes;
@@ -184,6 +192,7 @@ fn summed(s: State, kind: usize, args: Args, words: &[u8], coefficients: &[f64],
     } else {
         let modes = s.modes.list;
         case_projections::project(
+            s.phases,
             s.group,
             sectors::front(&modes, s.modes.count),
             s.word.n,

@@ -1,7 +1,9 @@
-// Values that no call gives: numbers written into the group, the word and the walk in force.
+// Values that no call gives: numbers written into the group, the word, the walk and the phase table in force.
 use crate::state::State;
 use case_calls::words::WORD_ROOM;
 use case_calls::words::Word;
+use case_phases::forge;
+use case_phases::forge::Forged;
 use case_text::fields;
 use case_text::fields::Args;
 use case_text::kinds;
@@ -26,6 +28,10 @@ const LENGTH: usize = 5;
 
 const INDEX: usize = 6;
 
+const COSINE: usize = 7;
+
+const SINE: usize = 8;
+
 // The largest order or target.
 const LARGEST: usize = MAX_DECLARED as usize;
 
@@ -34,11 +40,32 @@ pub fn set(s: State, rest: &[u8]) -> State {
     let text = texts::after_space(rest);
     let k = text::read::find(text, b' ');
     if k < text.len() {
-        let names = b" sites generators order target n length index";
+        let names = b" sites generators order target n length index cosine sine";
         let what = kinds::place(&text[0..k], names);
-        return written(s, what, fields::read_args(&text[k..]));
+        return named(s, what, &text[k..]);
     }
     s.other()
+}
+
+fn named(s: State, what: usize, rest: &[u8]) -> State {
+    match what {
+        COSINE | SINE => phase(s, what, forge::read(rest)),
+        _ => written(s, what, fields::read_args(rest)),
+    }
+}
+
+// A number of the phase table.
+fn phase(mut s: State, what: usize, number: Forged) -> State {
+    let Forged::At(j, v) = number else {
+        return s.other();
+    };
+    let t = if what == COSINE {
+        forge::cosine(s.phases, j, v)
+    } else {
+        forge::sine(s.phases, j, v)
+    };
+    s.phases = t;
+    s.set()
 }
 
 fn written(mut s: State, what: usize, args: Args) -> State {

@@ -1,9 +1,10 @@
 // Cases: reads lines from standard input, makes the call that each names, and prints one line for each.
 //
 // A line ends with byte 10, its fields are parted by one space, the first is its name. In force are a group, a word (a site count n and at most
-// WORD_ROOM bytes), at most MODE_ROOM modes, a walk, and the rows of a sum, at most ROW_ROOM; all is empty and zero at first. Numbers are decimal, of
-// 64 bits, targets, orders and digits of 32, modes signed 32; HEX is hexadecimal. Below, REFUSED is `refused N` with ` v` for each value that rule N
-// names; LETTERS is a word by `to_text` at the n in force; a list is printed with a space before each member. Lent lists are all nines before.
+// WORD_ROOM bytes), at most MODE_ROOM modes, a walk, a phase table, and the rows of a sum, at most ROW_ROOM; all is empty and zero at first, and the
+// phase table the constant one. Numbers are decimal, of 64 bits, targets, orders and digits of 32, modes signed 32; HEX is hexadecimal. Below, REFUSED
+// is `refused N` with ` v` for each value that rule N names; LETTERS is a word by `to_text` at the n in force; a list is printed with a space before
+// each member. Lent lists are all nines before.
 //
 // | line                            | does                                                      | prints                                             |
 // |---------------------------------|-----------------------------------------------------------|----------------------------------------------------|
@@ -15,6 +16,7 @@
 // | `set order I V`, `target I V`   |                                                           |                                                    |
 // | `set n V`, `set length V`       | writes the word's n; cuts its bytes, or adds zeros        | `set`                                              |
 // | `set index V`                   | writes the walk's index                                   | `set`                                              |
+// | `set cosine J V`, `sine J V`    | writes into entry J of the phase table, V signed 64       | `set`                                              |
 // | `order`, `modulus`, `invert I`  | order, phase_modulus, invert_index                        | the number or REFUSED                              |
 // | `targets`                       | nothing                                                   | `/` and its targets for each generator             |
 // | `counter I K`                   | counter_from_index into K places                          | `done:` or `REFUSED:`, the list                    |
@@ -51,7 +53,13 @@
 // | `sum W R P S C`                 | the same with lists of these lengths: bytes of words,     | likewise                                           |
 // |                                 | coefficients, bytes of representatives, sums, counts      |                                                    |
 // | `sum_at A B`                    | as `sum`                                                  | of the lists the rows A to B - 1, zeros too        |
-// | `project`                       | project_pauli_sum, with the whole numbers                 | `K kept, D dropped:` and ` LETTERS COSINE SINE`    |
+// | `phase_table`                   | phase_table; it is in force                               | `set`                                              |
+// | `phase_file TEXT`               | read_phase_table; the table handed back is in force. TEXT | `accepted` or REFUSED, and then `, constant` or    |
+// |                                 | is as for `sheet`, and besides `[A:B]` stands for lines A | `, another`, whether that table is the constant    |
+// |                                 | to B of the constant table's print, line 1 with the names | one, all numbers compared                          |
+// |                                 | and line j + 2 with entry j                               |                                                    |
+// | `phase J`                       | nothing                                                   | the cosine and the sine of entry J, `C S`          |
+// | `project`                       | project_pauli_sum, by the table, with the whole numbers   | `K kept, D dropped:` and ` LETTERS COSINE SINE`    |
 // |                                 |                                                           | for each row of the table, ` and more after them`  |
 // |                                 |                                                           | if the rest is not zeros; or REFUSED and           |
 // |                                 |                                                           | `, as they were` or `, changed`                    |

@@ -8,17 +8,20 @@ use orbit::Walk;
 use pauli_word::WORD_BYTES;
 use permutation::MAX_GENERATORS;
 use permutation::TARGET_PLACES;
+use phases::PhaseTable;
 
 pub struct State {
     pub group: Group,
     pub word: Word,
     pub modes: Modes,
     pub walk: Walk,
+    // The table that sums are projected with.
+    pub phases: PhaseTable,
     // How many rows the sum has; they stand in lists beside the state.
     pub rows: usize,
 }
 
-// Nothing in force: all is zero.
+// Nothing in force: all is zero, and the phase table is the constant one.
 pub fn nothing() -> State {
     let group = Group {
         sites: 0,
@@ -45,6 +48,7 @@ pub fn nothing() -> State {
         word,
         modes,
         walk,
+        phases: phases::phase_table(),
         rows: 0,
     }
 }

@@ -17,12 +17,12 @@ use Rattle.outcome.specs.Outcome.{Outcome, refused, answer, Check, verdict, ans
 use Rattle.action.specs.Lists.{from, below, Member}
 use Rattle.action.specs.Permutation.{Valid}
 use Rattle.action.specs.Index.{orderOf}
-use Rattle.action.proofs.Lists.{member-below, of-member-below, every-intro, every-elim}
+use Rattle.action.proofs.Lists.{member-below, of-member-below, every-intro, every-elim, member-at}
 use Rattle.permutation.specs.Limits.{maxGenerators, maxOrder, targetPlaces}
 use Rattle.permutation.specs.Generators.{endsInside, permsOf, generatorCount, counts, permsCheck, groupChecks, generatorChecks, declared, rowAt, rowsOf, written}
 use Rattle.permutation.proofs.Commuting.{rows-length, row-at}
 use Rattle.outcome.proofs.Outcomes.{verdict-fine}
-use Rattle.permutation.proofs.Rules.{valid-of-checks, perms-fine, member-at}
+use Rattle.permutation.proofs.Rules.{valid-of-checks, perms-fine}
 use Rattle.generators.specs.Tables.{filled, placed, placedAll, zeros, restsClear, unusedClear, holdGroup}
 use Rattle.generators.proofs.Zeros.{blank, zeros-blank, blank-zeros}
 use Rattle.generators.proofs.Written.{ends-cons, perms-cons, ends-none, perms-none}

@@ -11,13 +11,14 @@ use lib.ListN.{length, getD, take, drop, length-drop}
 use lib.Seq.{length-take-le, drop-cons, getD-take, drop-drop, take-nil}
 use Rattle.pauli_word.specs.Limits.{maxSites}
 use Rattle.outcome.specs.Outcome.{Check}
+use Rattle.action.proofs.Lists.{member-at}
 use Rattle.action.specs.Lists.{from, below, every}
 use Rattle.action.specs.Permutation.{Permutes}
 use Rattle.action.proofs.ExactOrders.{order-positive}
 use Rattle.outcome.specs.declared.Refusal.{Refusal}
 use Rattle.permutation.specs.Generators.{fine, broke, targetsCheck, permCheck, permsCheck, orderCheck, ordersCheck, rowAt, rowsOf}
 use Rattle.permutation.proofs.Commuting.{rows-length, row-at, rows-cons, rows-nil, row-target}
-use Rattle.permutation.proofs.Rules.{perms-fine, orders-fine, member-at}
+use Rattle.permutation.proofs.Rules.{perms-fine, orders-fine}
 use Rattle.generators.specs.Tables.{zeros, restsClear}
 use Rattle.generators.proofs.Faults.{perm-targets}
 

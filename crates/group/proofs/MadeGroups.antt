@@ -18,12 +18,12 @@ use Rattle.pauli_word.specs.Calls.{siteCount}
 use Rattle.action.specs.Lists.{Member}
 use Rattle.action.specs.Permutation.{Generator, Permutes, Valid}
 use Rattle.action.specs.Index.{orderOf}
-use Rattle.action.proofs.Lists.{of-member-append}
+use Rattle.action.proofs.Lists.{of-member-append, of-member-at}
 use Rattle.permutation.specs.Limits.{maxGenerators, maxOrder, maxDeclared}
 use Rattle.permutation.specs.Generators.{permsOf, listEnd, permsCheck, ordersCheck, pairsCheck, orderOverflow, orderLimit, groupChecks, generatorChecks, declared, rowsOf, written}
 use Rattle.permutation.proofs.Commuting.{rows-length}
 use Rattle.outcome.proofs.Outcomes.{verdict-fine, unless-answer}
-use Rattle.permutation.proofs.Rules.{of-member-at, perms-fine, orders-fine, checks-of-valid}
+use Rattle.permutation.proofs.Rules.{perms-fine, orders-fine, checks-of-valid}
 use Rattle.generators.specs.Tables.{filled, placedAll}
 use Rattle.generators.specs.Parts.{anyZero, zeroSide, sidesLimit}
 use Rattle.generators.proofs.Groups.{hold-valid, hold-placed, same-count, placed-rows, placed-orders, placed-hold, placed-long, orders-long, written-ends, written-perms}

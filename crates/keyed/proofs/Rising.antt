@@ -8,6 +8,7 @@ use mathlib.Core.Logic.{_⊎_, inl, inr, ⊎-elim}
 use mathlib.Core.Bool.{Bool, true, false, false≢true}
 use mathlib.Core.List.{List, [], _∷_, _++_, map}
 use lib.ListN.{length, getD}
+use Rattle.action.proofs.Lists.{member-at}
 use Rattle.action.specs.Lists.{Member, NoRepeats}
 use Rattle.keyed.specs.Keyed.{Orders, Rising, insertKey, insertAll, rising, Slot, found, free, nextSlot, slotOf, insertAt}
 
@@ -193,11 +194,6 @@ module _ {K : Type 0} (less : K → K → Bool) where
   pub slot-free-below : (k : K) (js : List K) (i : ℕ) → slotOf less k js ≡ free i → i ≤ length js
   slot-free-below k js i e = subst (λ (s : Slot). Inside s (length js)) e (slot-inside k js)
 
-pub member-getD : {A : Type 0} (xs : List A) (d : A) (i : ℕ) → i < length xs → Member (getD xs i d) xs
-member-getD [] d i h = absurd (not-suc-le-zero h)
-member-getD (a ∷ xs) d zero h = inl refl
-member-getD (a ∷ xs) d (suc i) h = inr (member-getD xs d i (le-of-suc-le-suc h))
-
 -- a slot that is found is one where k stands
 abbrev Stands : {K : Type 0} → Slot → K → K → List K → Type 0
 Stands (found i) d k js = getD js i d ≡ k
@@ -261,7 +257,7 @@ module _ {K : Type 0} {P : K → Type 0} {less : K → K → Bool} (o : Orders P
   pub rising-places : (js : List K) (d : K) → Rising less js → (a b : ℕ) → a < b → b < length js → less (getD js a d) (getD js b d) ≡ true
   rising-places [] d r a b h l = absurd (not-suc-le-zero l)
   rising-places (j ∷ js) d r a zero h l = absurd (not-suc-le-zero h)
-  rising-places (j ∷ js) d r zero (suc b) h l = rising-above j js r (getD js b d) (member-getD js d b (le-of-suc-le-suc l))
+  rising-places (j ∷ js) d r zero (suc b) h l = rising-above j js r (getD js b d) (member-at js d b (le-of-suc-le-suc l))
   rising-places (j ∷ js) d r (suc a) (suc b) h l =
       rising-places js d (rising-tail less j js r) a b (le-of-suc-le-suc h) (le-of-suc-le-suc l)
 
@@ -280,7 +276,7 @@ module _ {K : Type 0} {P : K → Type 0} {less : K → K → Bool} (o : Orders P
   slot-own [] d r m h = absurd (not-suc-le-zero h)
   slot-own (j ∷ js) d r zero h = rw (o .irrefl j)
   slot-own (j ∷ js) d r (suc m) h =
-      rw (rising-above j js r (getD js m d) (member-getD js d m (le-of-suc-le-suc h)))
+      rw (rising-above j js r (getD js m d) (member-at js d m (le-of-suc-le-suc h)))
       (ap nextSlot (slot-own js d (rising-tail less j js r) m (le-of-suc-le-suc h)))
 
   pub slot-found-at :

@@ -42,10 +42,13 @@ pub fn number32(n: u32) {
 pub fn signed(n: i64) {
     if n < 0 {
         text(b"-");
-        io::print_decimal(STDOUT_FILENO, (-1 - n) as u64 + 1);
-    } else {
-        io::print_decimal(STDOUT_FILENO, n as u64);
     }
+    io::print_decimal(STDOUT_FILENO, size(n));
+}
+
+// A number without its sign.
+pub fn size(n: i64) -> u64 {
+    if n < 0 { (-1 - n) as u64 + 1 } else { n as u64 }
 }
 
 pub fn signed32(n: i32) {

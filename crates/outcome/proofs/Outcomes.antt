@@ -153,3 +153,5 @@ number-small Refusal.SheetLength = omega arith
 number-small Refusal.LineForm = omega arith
 number-small Refusal.PhaseModulus = omega arith
 number-small (Refusal.CoefficientRange a) = omega arith
+number-small Refusal.PhaseForm = omega arith
+number-small Refusal.PhaseRule = omega arith

@@ -51,6 +51,8 @@ ruleNumber Refusal.SheetLength = 30
 ruleNumber Refusal.LineForm = 31
 ruleNumber Refusal.PhaseModulus = 32
 ruleNumber (Refusal.CoefficientRange row) = 33
+ruleNumber Refusal.PhaseForm = 34
+ruleNumber Refusal.PhaseRule = 35
 
 -- the values that it names
 abbrev pub ruleValues : Refusal → List ℕ
@@ -88,6 +90,8 @@ ruleValues Refusal.SheetLength = []
 ruleValues Refusal.LineForm = []
 ruleValues Refusal.PhaseModulus = []
 ruleValues (Refusal.CoefficientRange row) = row ∷ []
+ruleValues Refusal.PhaseForm = []
+ruleValues Refusal.PhaseRule = []
 
 abbrev pub refusalOf : {A : Type 0} → Refusal → Outcome A
 refusalOf why = refused (ruleNumber why) (ruleValues why)

@@ -73,6 +73,10 @@ pub enum Refusal {
     PhaseModulus,
     // 33: a row whose whole coefficient is out of its range.
     CoefficientRange(usize),
+    // 34: the file of a phase table that has another form, or too many bytes.
+    PhaseForm,
+    // 35: a phase table with a number out of its range, or that breaks a rule.
+    PhaseRule,
 }
 
 // What checks come to, and a call whose answer stands beside it or in a lent list.
@@ -126,5 +130,7 @@ pub fn rule_number(why: Refusal) -> usize
         Refusal::LineForm => 31,
         Refusal::PhaseModulus => 32,
         Refusal::CoefficientRange(_) => 33,
+        Refusal::PhaseForm => 34,
+        Refusal::PhaseRule => 35,
     }
 }

@@ -10,6 +10,7 @@ use native.Mathlib.Omega.{arith}
 use lib.Dec.{eqb, leb, ltb}
 use lib.ListN.{length, getD}
 use borrow.Author.Tests.{leb-false, lt-leb, eqb-false, ne-eqb, eqb-true, eq-eqb, ltb-false, le-ltb}
+use Rattle.action.proofs.Lists.{member-at, of-member-at}
 use Rattle.action.specs.Lists.{Member}
 use Rattle.action.specs.Permutation.{Generator, exactOrder, Permutes, Commute, Valid}
 use Rattle.action.specs.Index.{orderOf}
@@ -261,16 +262,6 @@ product-order [] [] s = refl
 product-order [] (o ∷ orders) s = absurd (omega arith)
 product-order (p ∷ perms) [] s = absurd (omega arith)
 product-order (p ∷ perms) (o ∷ orders) s = ap (λ (k : ℕ). o * k) (product-order perms orders (suc-inj s))
-
-pub member-at : {A : Type 0} (xs : List A) (d : A) (g : ℕ) → g < length xs → Member (getD xs g d) xs
-member-at [] d g l = absurd (not-suc-le-zero l)
-member-at (x ∷ xs) d zero l = inl refl
-member-at (x ∷ xs) d (suc g) l = inr (member-at xs d g (le-of-suc-le-suc l))
-
-pub of-member-at : {A : Type 0} (xs : List A) (d a : A) → Member a xs → (g : ℕ) × (g < length xs) × (a ≡ getD xs g d)
-of-member-at [] d a m = absurd m
-of-member-at (x ∷ xs) d a (inl e) = (0, zero-lt-suc (length xs), e)
-of-member-at (x ∷ xs) d a (inr m) = let (g, l, e) = of-member-at xs d a m in (suc g, suc-le-suc l, e)
 
 -- ---- all of them
 

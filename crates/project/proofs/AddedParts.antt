@@ -3,7 +3,7 @@
 use Prim.Native.Nat.{ℕ, zero, suc, _+_, _*_, _≤_, _<_}
 use mathlib.Core.Path.{_≡_, sym, ap, _∙_}
 use mathlib.Core.Logic.{_⊎_, inl, inr}
-use mathlib.Core.List.{List, [], _∷_, map}
+use mathlib.Core.List.{List, [], _∷_}
 use native.Mathlib.Nat.{mul-le-mul-right}
 use native.Mathlib.Numerals.{add-one}
 use native.Mathlib.Omega.{arith}
@@ -14,7 +14,7 @@ use Rattle.action.proofs.Lists.{of-member-map, of-member-select, of-member-appe
 use Rattle.keyed.specs.Keyed.{contentsOf, foldKey, placed, placeValues}
 use Rattle.keyed.proofs.Folds.{contents-few}
 use Rattle.keyed.proofs.Places.{place-equality, placed-length, values-next}
-use Rattle.phase_table.specs.Rules.{InRange}
+use Rattle.phases.specs.Rules.{InRange}
 use Rattle.projection.proofs.Bounds.{fold-bound}
 use Rattle.project.specs.Rows.{wholeSums}
 

@@ -1,6 +1,5 @@
--- Laws of the call: `Ranges` of whole numbers in their range and in 64 bits, `ProjectChecks` of what is checked, `Turning` of one row and
--- `TurnedRows` of all, `AddedParts` of what they add, `ProjectedLists` of the lists that this gives; and what is promised to a reader in `Promises`, with the laws that it cites.
-pub mod Ranges
+-- Laws of the call: `ProjectChecks` of what is checked, `Turning` of one row and `TurnedRows` of all, `AddedParts` of what they add,
+-- `ProjectedLists` of the lists that this gives; and what is promised to a reader in `Promises`, with the laws that it cites.
 pub mod ProjectChecks
 pub mod Turning
 pub mod TurnedRows

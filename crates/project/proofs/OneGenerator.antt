@@ -28,6 +28,7 @@ use mathlib.Core.List.{List, [], _∷_}
 use lib.IntN.{ℤ, pos}
 use lib.ListN.{length, getD}
 use Rattle.pauli_word.specs.Word.{Word}
+use Rattle.action.proofs.Lists.{member-at}
 use Rattle.action.specs.Lists.{Member}
 use Rattle.action.specs.Permutation.{Generator, Valid}
 use Rattle.action.specs.Index.{digits}
@@ -38,8 +39,7 @@ use Rattle.action.proofs.ExactOrders.{order-positive}
 use Rattle.action.proofs.Canonical.{orbit-intro}
 use Rattle.action.proofs.Annihilators.{cofactor, pos-of-mul, phases-cons-zero, phases-zeros}
 use Rattle.action.proofs.Characters.{reduced-below, modulus-positive, modulus-multiple}
-use Rattle.permutation.proofs.Rules.{member-at}
-use Rattle.phase_table.specs.Rules.{turn}
+use Rattle.phases.specs.Rules.{turn}
 use Rattle.projection.specs.Projection.{generatorIndex}
 use Rattle.projection.proofs.Entries.{generator-below, generator-reaches}
 

@@ -29,8 +29,7 @@ use Rattle.pauli_word.specs.Bytes.{encode, planeOf, number, bytesOf}
 use Rattle.pauli_word.proofs.Words.{encode-length, encode-blank, encoded-decode}
 use Rattle.pauli_word.proofs.WordOrder.{less-irrefl}
 use Rattle.action.specs.Lists.{Member}
-use Rattle.action.proofs.Lists.{member-map}
-use Rattle.permutation.proofs.Rules.{member-at}
+use Rattle.action.proofs.Lists.{member-map, member-at}
 use Rattle.keyed.specs.Keyed.{keyOf, renamed}
 use Rattle.row_lists.specs.Rows.{rowAt, joinRows}
 use Rattle.row_lists.proofs.Rows.{row-behind}

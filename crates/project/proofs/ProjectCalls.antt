@@ -1,6 +1,7 @@
 -- The call as its parts give it: refused by its checks, with the lists as they were; or, past them, the projected sum of the rows.
 use Prim.Native.Nat.{ℕ, _-_, _<_}
 use mathlib.Core.Path.{_≡_, sym, ap, _∙_}
+use mathlib.Core.Bool.{true}
 use mathlib.Core.List.{List, map}
 use native.Mathlib.Decide.{decLt}
 use native.Mathlib.Omega.{arith}
@@ -14,17 +15,16 @@ use Rattle.group.specs.declared.Group.{Group}
 use Rattle.group.specs.Value.{generatorsOf}
 use Rattle.keyed.specs.Keyed.{renamed}
 use Rattle.row_words.specs.Words.{wordsFilled, filled}
-use Rattle.phase_table.specs.declared.PhaseTable.{PhaseTable}
-use Rattle.phase_table.specs.Table.{phaseTable}
-use Rattle.phase_table.specs.Rules.{turn, unit, InRange, cosine, sine}
-use Rattle.phase_table.proofs.Constant.{constant-range, constant-lengths}
+use Rattle.phases.specs.declared.PhaseTable.{PhaseTable}
+use Rattle.phases.specs.Rules.{turn, unit, InRange, cosine, sine, passes}
+use Rattle.phases.proofs.Tests.{passes-range}
 use Rattle.projection.specs.Projection.{keptRows, droppedRows, projected}
 use Rattle.projection.proofs.Projected.{counts-add}
 use Rattle.project.specs.Calls.{projectChecks, inputRows, projectedSum, projectOutcome, countsOf, wordsAfter, cosinesAfter, sinesAfter}
 use Rattle.project.specs.Rows.{PhaseLists}
 use Rattle.project.proofs.TurnedRows.{input-length}
 
--- ---- the lists of the constant table
+-- ---- the lists of a table that passes
 
 -- a list that is in range at its places is in range everywhere
 everywhere : (xs : List ℤ) → length xs ≡ turn → ((e : ℕ) → e < turn → InRange unit (getD xs e (pos 0))) → (e : ℕ) → InRange unit (getD xs e (pos 0))
@@ -34,27 +34,28 @@ everywhere xs long inside e = go (decLt e turn)
     go (yes h) = inside e h
     go (no n) = rw (List·getD-eq-default xs (pos 0) {n = e} (omega (arith, n))) (omega arith)
 
-pub constant-lists : PhaseLists (phaseTable .cosines) (phaseTable .sines)
+pub passing-lists : (t : PhaseTable) → length (t .cosines) ≡ turn → length (t .sines) ≡ turn → passes t ≡ true → PhaseLists (t .cosines) (t .sines)
 unfolding cosine sine
-constant-lists =
+passing-lists t long also fine =
+    let range = passes-range t fine in
     record {
-      cosinesLong = constant-lengths .0;
-      sinesLong = constant-lengths .1;
-      cosinesIn = everywhere (phaseTable .cosines) (constant-lengths .0) (constant-range .cosines);
-      sinesIn = everywhere (phaseTable .sines) (constant-lengths .1) (constant-range .sines);
+      cosinesLong = long;
+      sinesLong = also;
+      cosinesIn = everywhere (t .cosines) long (range .cosines);
+      sinesIn = everywhere (t .sines) also (range .sines);
     }
 
 -- ---- the outcome
 
 module _ (t : PhaseTable) (g : Group) (ks : List ℤ) (words : List ℕ) (cs : List ℤ) (a b c : ℕ) where
-  pub project-refused : (why : Refusal) → verdict (projectChecks g ks words cs a b c) ≡ refusalOf why → projectOutcome t g ks words cs a b c ≡ refusalOf why
+  pub project-refused : (why : Refusal) → verdict (projectChecks t g ks words cs a b c) ≡ refusalOf why → projectOutcome t g ks words cs a b c ≡ refusalOf why
   unfolding projectOutcome
-  project-refused = call-refused (projectChecks g ks words cs a b c) (answer (projectedSum t g ks (inputRows g words cs)))
+  project-refused = call-refused (projectChecks t g ks words cs a b c) (answer (projectedSum t g ks (inputRows g words cs)))
 
-  module _ (pass : verdict (projectChecks g ks words cs a b c) ≡ answer tt) where
+  module _ (pass : verdict (projectChecks t g ks words cs a b c) ≡ answer tt) where
     project-answers : projectOutcome t g ks words cs a b c ≡ answer (projectedSum t g ks (inputRows g words cs))
     unfolding projectOutcome
-    project-answers = call-answers (projectChecks g ks words cs a b c) (answer (projectedSum t g ks (inputRows g words cs))) pass
+    project-answers = call-answers (projectChecks t g ks words cs a b c) (answer (projectedSum t g ks (inputRows g words cs))) pass
 
     -- the answer, by the rows that are kept
     pub answered-counts : {kept : ℕ} → kept ≡ length (keptRows (generatorsOf g) ks (inputRows g words cs))

@@ -2,7 +2,7 @@
 -- What carries it: the first rule that is broken decides, and a pass breaks none.
 use Prim.Native.Nat.{ℕ, _%_, _<_, _≤_}
 use mathlib.Core.Path.{_≡_, sym, ap, _∙_}
-use mathlib.Core.Bool.{true, false, not}
+use mathlib.Core.Bool.{true, false}
 use mathlib.Core.List.{List, [], _∷_, _++_}
 use lib.Dec.{eqb}
 use lib.IntN.{ℤ, pos}
@@ -25,7 +25,9 @@ use Rattle.group.proofs.MadeGroups.{held-valid}
 use Rattle.momentum.specs.Calls.{modeCount}
 use Rattle.row_lists.specs.Checks.{listChecks}
 use Rattle.row_lists.proofs.ListChecks.{Agreeing, given-answered, lists-fine, own-fine, accepted-rows}
-use Rattle.phase_table.specs.Rules.{turn, inRange}
+use Rattle.phases.specs.declared.PhaseTable.{PhaseTable}
+use Rattle.phases.specs.Rules.{turn, inRange, passes}
+use Rattle.phases.specs.Checks.{brokenTable}
 use Rattle.project.specs.Calls.{maxCoefficient, otherModulus, outOfRange, projectChecks}
 use Rattle.project.specs.Rows.{Sector, WholeRows}
 
@@ -42,73 +44,89 @@ module _ (i : ℕ) (c : ℤ) where
   pub range-broken : inRange maxCoefficient c ≡ false → verdict (outOfRange i c ∷ []) ≡ refusalOf (Refusal.CoefficientRange i)
   range-broken e = rw e
 
--- ---- 18, 32
+-- ---- 18, 32, 35
 
-module _ (g : Group) (ks : List ℤ) where
-  abbrev modesVerdict : Outcome (Unit {0})
-  modesVerdict = verdict (modeCount g ks ∷ otherModulus g ∷ [])
+module _ (t : PhaseTable) (g : Group) (ks : List ℤ) where
+  abbrev pub sectorChecks : List Check
+  sectorChecks = modeCount g ks ∷ otherModulus g ∷ brokenTable t ∷ []
 
-  pub modes-differ : (length ks ≡ g .generators → ⊥) → modesVerdict ≡ refusalOf Refusal.ModeCount
+  pub modes-differ : (length ks ≡ g .generators → ⊥) → verdict sectorChecks ≡ refusalOf Refusal.ModeCount
   modes-differ h = simp (ne-eqb (length ks) (g .generators) h)
 
   module _ (e : length ks ≡ g .generators) where
-    pub modes-divide : turn % modulus (generatorsOf g) ≡ 0 → modesVerdict ≡ answer tt
-    modes-divide h = simp (eq-eqb (length ks) (g .generators) e, eq-eqb (turn % modulus (generatorsOf g)) 0 h)
+    pub modulus-other : (turn % modulus (generatorsOf g) ≡ 0 → ⊥) → verdict sectorChecks ≡ refusalOf Refusal.PhaseModulus
+    modulus-other h = simp (eq-eqb (length ks) (g .generators) e, ne-eqb (turn % modulus (generatorsOf g)) 0 h)
 
-    pub modes-left : (turn % modulus (generatorsOf g) ≡ 0 → ⊥) → modesVerdict ≡ refusalOf Refusal.PhaseModulus
-    modes-left h = simp (eq-eqb (length ks) (g .generators) e, ne-eqb (turn % modulus (generatorsOf g)) 0 h)
+    module _ (h : turn % modulus (generatorsOf g) ≡ 0) where
+      pub table-breaks : passes t ≡ false → verdict sectorChecks ≡ refusalOf Refusal.PhaseRule
+      table-breaks p = simp (eq-eqb (length ks) (g .generators) e, eq-eqb (turn % modulus (generatorsOf g)) 0 h, p)
 
-  pub modes-sector : AcceptedGroup g → modesVerdict ≡ answer tt → Sector g ks
-  modes-sector ok e =
-      let one = verdict-fine (modeCount g ks) (otherModulus g ∷ []) e in
-      let two = verdict-fine (otherModulus g) [] (one .1) in
-      record {
-        group = ok;
-        modes = eqb-true (length ks) (g .generators) (not-false (eqb (length ks) (g .generators)) (one .0));
-        divides = eqb-true (turn % modulus (generatorsOf g)) 0 (not-false (eqb (turn % modulus (generatorsOf g)) 0) (two .0));
-      }
+      pub table-passes : passes t ≡ true → verdict sectorChecks ≡ answer tt
+      table-passes p = simp (eq-eqb (length ks) (g .generators) e, eq-eqb (turn % modulus (generatorsOf g)) 0 h, p)
 
--- ---- all checks: the value's, the modes', and those of the lists
+  -- what a pass has shown
+  module _ (pass : verdict sectorChecks ≡ answer tt) where
+    one : (modeCount g ks .broken ≡ false) × (verdict (otherModulus g ∷ brokenTable t ∷ []) ≡ answer tt)
+    one = verdict-fine (modeCount g ks) (otherModulus g ∷ brokenTable t ∷ []) pass
+
+    two : (otherModulus g .broken ≡ false) × (verdict (brokenTable t ∷ []) ≡ answer tt)
+    two = verdict-fine (otherModulus g) (brokenTable t ∷ []) (one .1)
+
+    sector-fine : AcceptedGroup g → Sector g ks
+    sector-fine ok =
+        record {
+          group = ok;
+          modes = eqb-true (length ks) (g .generators) (not-false (eqb (length ks) (g .generators)) (one .0));
+          divides = eqb-true (turn % modulus (generatorsOf g)) 0 (not-false (eqb (turn % modulus (generatorsOf g)) 0) (two .0));
+        }
+
+    table-fine : passes t ≡ true
+    table-fine = not-false (passes t) (verdict-fine (brokenTable t) [] (two .1) .0)
+
+-- ---- all checks: the value's, those of the modes and the table, and those of the lists
 
 pub value-few : (g : Group) → verdict (valueChecks g) ≡ answer tt → g .sites ≤ maxSites
 value-few g e = ltb-false maxSites (g .sites) (verdict-fine (siteCount (g .sites)) (notAGroup g ∷ []) e .0)
 
-module _ (g : Group) (ks : List ℤ) (words : List ℕ) (cs : List ℤ) (a b c : ℕ) where
-  abbrev modes : List Check
-  modes = modeCount g ks ∷ otherModulus g ∷ []
+module _ (t : PhaseTable) (g : Group) (ks : List ℤ) (words : List ℕ) (cs : List ℤ) (a b c : ℕ) where
+  abbrev sector : List Check
+  sector = sectorChecks t g ks
 
   abbrev lists : List Check
   lists = listChecks outOfRange (g .sites) words cs a b c
 
   abbrev all : Outcome (Unit {0})
-  all = verdict (projectChecks g ks words cs a b c)
+  all = verdict (projectChecks t g ks words cs a b c)
 
   pub value-refused : (why : Refusal) → verdict (valueChecks g) ≡ refusalOf why → all ≡ refusalOf why
-  value-refused = front-refused (valueChecks g) (modes ++ lists)
+  value-refused = front-refused (valueChecks g) (sector ++ lists)
 
-  after-value : verdict (valueChecks g) ≡ answer tt → all ≡ verdict (modes ++ lists)
-  after-value e = verdict-append (valueChecks g) (modes ++ lists) ∙ ap (λ (v : Outcome (Unit {0})). given v (verdict (modes ++ lists))) e
+  after-value : verdict (valueChecks g) ≡ answer tt → all ≡ verdict (sector ++ lists)
+  after-value e = verdict-append (valueChecks g) (sector ++ lists) ∙ ap (λ (v : Outcome (Unit {0})). given v (verdict (sector ++ lists))) e
 
   module _ (v : verdict (valueChecks g) ≡ answer tt) where
-    pub modes-refused : (why : Refusal) → verdict modes ≡ refusalOf why → all ≡ refusalOf why
-    modes-refused why e = after-value v ∙ front-refused modes lists why e
+    pub sector-refused : (why : Refusal) → verdict sector ≡ refusalOf why → all ≡ refusalOf why
+    sector-refused why e = after-value v ∙ front-refused sector lists why e
 
-    pub lists-decide : verdict modes ≡ answer tt → all ≡ verdict lists
-    lists-decide e = after-value v ∙ verdict-append modes lists ∙ ap (λ (v : Outcome (Unit {0})). given v (verdict lists)) e
+    pub lists-decide : verdict sector ≡ answer tt → all ≡ verdict lists
+    lists-decide e = after-value v ∙ verdict-append sector lists ∙ ap (λ (v : Outcome (Unit {0})). given v (verdict lists)) e
 
   -- what a sum that passes has shown
   module _ (pass : all ≡ answer tt) where
-    parted : (verdict (valueChecks g) ≡ answer tt) × (verdict (modes ++ lists) ≡ answer tt)
-    parted = given-answered (verdict (valueChecks g)) (verdict (modes ++ lists)) tt (sym (verdict-append (valueChecks g) (modes ++ lists)) ∙ pass)
+    parted : (verdict (valueChecks g) ≡ answer tt) × (verdict (sector ++ lists) ≡ answer tt)
+    parted = given-answered (verdict (valueChecks g)) (verdict (sector ++ lists)) tt (sym (verdict-append (valueChecks g) (sector ++ lists)) ∙ pass)
 
-    later : (verdict modes ≡ answer tt) × (verdict lists ≡ answer tt)
-    later = given-answered (verdict modes) (verdict lists) tt (sym (verdict-append modes lists) ∙ parted .1)
+    later : (verdict sector ≡ answer tt) × (verdict lists ≡ answer tt)
+    later = given-answered (verdict sector) (verdict lists) tt (sym (verdict-append sector lists) ∙ parted .1)
 
     pub passed-value : verdict (valueChecks g) ≡ answer tt
     passed-value = parted .0
 
     pub passed-sector : AcceptedGroup g → Sector g ks
-    passed-sector ok = modes-sector g ks ok (later .0)
+    passed-sector ok = sector-fine t g ks (later .0) ok
+
+    pub passed-table : passes t ≡ true
+    passed-table = table-fine t g ks (later .0)
 
     pub passed-lengths : Agreeing (length words) (length cs) a b c
     passed-lengths = lists-fine outOfRange (g .sites) words cs a b c (later .1) .0

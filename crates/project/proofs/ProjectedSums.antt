@@ -16,15 +16,15 @@ use Rattle.action.specs.Lists.{Member, below, count}
 use Rattle.action.specs.Permutation.{Generator, Valid}
 use Rattle.action.specs.Orbit.{least}
 use Rattle.action.specs.Sector.{keeps}
-use Rattle.action.proofs.Lists.{member-map, count-cong, count-places, count-select, of-member-below, of-member-map, of-member-select}
-use Rattle.permutation.proofs.Rules.{member-at, of-member-at}
+use Rattle.action.proofs.Lists.{member-map, count-cong, count-places, count-select, of-member-below, of-member-map, of-member-select, member-at, of-member-at}
 use Rattle.group.specs.declared.Group.{Group}
 use Rattle.group.specs.Value.{generatorsOf, AcceptedGroup}
 use Rattle.group.proofs.MadeGroups.{held-valid}
 use Rattle.keyed.specs.Keyed.{keyOf, leftFold}
 use Rattle.keyed.proofs.Tables.{map-cong}
-use Rattle.phase_table.specs.declared.PhaseTable.{PhaseTable}
-use Rattle.phase_table.specs.Rules.{turn, unit, InRange, cosine, sine, PhaseRange}
+use Rattle.phases.specs.declared.PhaseTable.{PhaseTable}
+use Rattle.phases.specs.Rules.{turn, unit, InRange, cosine, sine, PhaseRange}
+use Rattle.phases.proofs.Ranges.{product-range}
 use Rattle.projection.specs.Projection.{Parts, noParts, entryAt, entryOf, turned, keptRows, turnedRow, rowsOf, sumAlong}
 use Rattle.projection.proofs.Entries.{word-below, entry-which}
 use Rattle.projection.proofs.Projected as Projected
@@ -46,7 +46,6 @@ use Rattle.project.specs.Calls.{maxCoefficient, inputRows, projectedSum}
 use Rattle.project.specs.Rows.{maxPart, PhaseLists, WholeRows, turnedRows}
 use Rattle.project.specs.Promises.{wordAt, keepsRow, rowsWith, PartsWithin, ProjectedTable}
 use Rattle.project.proofs.ProjectChecks.{modulus-above}
-use Rattle.project.proofs.Ranges.{product-range}
 use Rattle.project.proofs.TurnedRows.{input-length, input-at}
 
 -- ---- the input rows

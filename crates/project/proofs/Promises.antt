@@ -1,18 +1,19 @@
 -- What is promised of a projected sum by the outcome of its call, for a group that accepted generators give, any bytes and any phase table: each
--- statement is followed by the law that shows it. What a law asks of the table stands with it, and the constant table has it.
+-- statement is followed by the law that shows it.
 --
 -- 1 What an answer has checked, 2 An answered sum, 3 The output lists, 4 How large the parts are, 5 Modes that are all 0, 6 Words moved by a
--- generator, 7 Two rows of one word, 8 Refusals, 9 The constant table.
+-- generator, 7 Two rows of one word, 8 Refusals, 9 Tables that are never refused.
 use Prim.Native.Nat.{ℕ, suc, _+_, _*_, _/_, _%_, _^_, _<_}
 use native.Mathlib.Nat.{dvd-of-mod-eq-zero}
 use native.Mathlib.Omega.{arith}
 use mathlib.Core.Path.{_≡_, refl, sym, ap, subst, _∙_}
 use mathlib.Core.Logic.{_⊎_, inl, inr}
-use mathlib.Core.Bool.{Bool, true, false, cond}
+use mathlib.Core.Bool.{Bool, true, false, not, cond}
 use mathlib.Core.List.{List, [], _∷_, _++_, map}
 use lib.IntN.{ℤ, pos, _+ℤ_, _*ℤ_}
 use lib.ListN.{length, getD}
-use Rattle.outcome.specs.Outcome.{Outcome, refused, answer, Check, verdict, given, unless}
+use Rattle.outcome.specs.declared.Refusal.the-variants as Refusal
+use Rattle.outcome.specs.Outcome.{Outcome, refused, answer, refusalOf, Check, verdict, given, unless}
 use Rattle.outcome.proofs.Outcomes.{refused-apart, verdict-append, call-answers, unless-answer}
 use Rattle.pauli_word.specs.Word.{Word}
 use Rattle.pauli_word.specs.Bytes.{Bytes}
@@ -32,10 +33,14 @@ use Rattle.keyed.specs.Keyed.{keyOf}
 use Rattle.row_lists.specs.Rows.{maxRows, rowsIn}
 use Rattle.row_lists.specs.Checks.{rowChecks, listChecks}
 use Rattle.row_lists.proofs.ListChecks.{Agreeing}
-use Rattle.phase_table.specs.declared.PhaseTable.{PhaseTable}
-use Rattle.phase_table.specs.Table.{phaseTable}
-use Rattle.phase_table.specs.Rules.{turn, unit, cosine, sine, PhaseRange, PhaseRules}
-use Rattle.phase_table.proofs.Constant.{constant-range, constant-rules}
+use Rattle.phases.specs.declared.PhaseTable.{PhaseTable}
+use Rattle.phases.specs.Table.{phaseTable}
+use Rattle.phases.specs.Rules.{turn, unit, cosine, sine, PhaseRange, PhaseRules, passes}
+use Rattle.phases.specs.Checks.{brokenTable}
+use Rattle.phases.proofs.Tests.{passes-range, passes-rules}
+use Rattle.phases.proofs.Constant.{constant-passes}
+use Rattle.phase_file.specs.File.{fileOutcome, tableAfter}
+use Rattle.phase_file.proofs.Promises.{after-passes}
 use Rattle.projection.specs.Projection.{Parts, entryAt, entryOf, sumOf, projected}
 use Rattle.projection.proofs.Entries.{keeps-zero-modes, entry-generator}
 use Rattle.projection.proofs.Projected.{projected-zero-modes}
@@ -54,7 +59,8 @@ use Rattle.project.specs.Calls.{
 }
 use Rattle.project.specs.Rows.{maxPart, Sector, WholeRows}
 use Rattle.project.specs.Promises.{keepsRow, rowsWith, noGenerator, generatorAt, movedBy, turnsBy, PartsWithin, ProjectedTable, OutputLists}
-use Rattle.project.proofs.ProjectChecks.{passed-sector, passed-lengths, passed-rows}
+use Rattle.project.proofs.ProjectChecks.{sectorChecks, table-breaks, sector-refused, passed-sector, passed-table, passed-lengths, passed-rows}
+use Rattle.project.proofs.ProjectCalls.{project-refused}
 use Rattle.project.proofs.ProjectedSums.{input-long, table-projected, table-parts}
 use Rattle.project.proofs.OutputLists.{lists-hold}
 use Rattle.project.proofs.OneGenerator.{generator-orbit, generator-turns}
@@ -66,9 +72,9 @@ largest-part = refl
 module _ (t : PhaseTable) (g : Group) (ks : List ℤ) (words : List ℕ) (cs : List ℤ) (a b c : ℕ)
     (s : ProjectedSum) (answered : projectOutcome t g ks words cs a b c ≡ answer s) where
   -- an answer comes after checks that pass, and is what the rows come to
-  passed : (verdict (projectChecks g ks words cs a b c) ≡ answer tt) × (projectedSum t g ks (inputRows g words cs) ≡ s)
+  passed : (verdict (projectChecks t g ks words cs a b c) ≡ answer tt) × (projectedSum t g ks (inputRows g words cs) ≡ s)
   unfolding projectOutcome
-  passed = unless-answer (projectChecks g ks words cs a b c) (projectedSum t g ks (inputRows g words cs)) s answered
+  passed = unless-answer (projectChecks t g ks words cs a b c) (projectedSum t g ks (inputRows g words cs)) s answered
 
   table-is : projected (t .cosines) (t .sines) (generatorsOf g) ks (inputRows g words cs) ≡ s .table
   unfolding projectedSum
@@ -79,15 +85,22 @@ module _ (t : PhaseTable) (g : Group) (ks : List ℤ) (words : List ℕ) (cs : L
 
     -- there is a mode for each generator, and the phase modulus divides a turn
     pub answered-sector : Sector g ks
-    answered-sector = passed-sector g ks words cs a b c (passed .0) (given-accepted g by)
+    answered-sector = passed-sector t g ks words cs a b c (passed .0) (given-accepted g by)
 
     -- the five lists have as many rows, and there are few enough
     pub answered-lists : Agreeing (length words) (length cs) a b c
-    answered-lists = passed-lengths g ks words cs a b c (passed .0)
+    answered-lists = passed-lengths t g ks words cs a b c (passed .0)
+
+    -- the table has its numbers in their range, and keeps the rules
+    pub answered-range : PhaseRange t
+    answered-range = passes-range t (passed-table t g ks words cs a b c (passed .0))
+
+    pub answered-rules : PhaseRules t
+    answered-rules = passes-rules t (passed-table t g ks words cs a b c (passed .0))
 
     -- each row has a word of the sites and a coefficient in its range
     pub answered-rows : WholeRows g words cs
-    answered-rows = passed-rows g ks words cs a b c (passed .0) small
+    answered-rows = passed-rows t g ks words cs a b c (passed .0) small
 
     -- ---- 2 An answered sum: strictly rising representatives of the kept rows, each with the exact sums of what its rows add
 
@@ -108,12 +121,11 @@ module _ (t : PhaseTable) (g : Group) (ks : List ℤ) (words : List ℕ) (cs : L
 
     -- ---- 4 How large the parts are: a row adds at most the largest coefficient times a unit, and as many rows as there may be stay inside 64 bits
 
-    module _ (range : PhaseRange t) where
-      pub answered-parts : (v : Word) (p : Parts) → Member (v, p) (s .table) → PartsWithin (length cs * maxPart) p
-      answered-parts v p m = table-parts t g (given-accepted g by) ks words cs answered-rows range v p (rw (passed .1) m)
+    pub answered-parts : (v : Word) (p : Parts) → Member (v, p) (s .table) → PartsWithin (length cs * maxPart) p
+    answered-parts v p m = table-parts t g (given-accepted g by) ks words cs answered-rows answered-range v p (rw (passed .1) m)
 
-      pub answered-inside : (v : Word) (p : Parts) → Member (v, p) (s .table) → PartsWithin (2 ^ 62) p
-      answered-inside v p m = omega (arith, answered-parts v p m, answered-lists .few)
+    pub answered-inside : (v : Word) (p : Parts) → Member (v, p) (s .table) → PartsWithin (2 ^ 62) p
+    answered-inside v p m = omega (arith, answered-parts v p m, answered-lists .few)
 
     -- ---- 5 Modes that are all 0: nothing is dropped, and each word has the sum of its rows' coefficients, in units, and no sine
 
@@ -128,13 +140,11 @@ module _ (t : PhaseTable) (g : Group) (ks : List ℤ) (words : List ℕ) (cs : L
       pub zero-modes-dropped : s .dropped ≡ 0
       zero-modes-dropped = omega (arith, answered-table .allCounted, zero-modes-kept)
 
-  pub zero-modes-sums :
-      ((k : ℤ) → Member k ks → k ≡ pos 0) → PhaseRules t → (v : Word) (p : Parts) → Member (v, p) (s .table)
-      → p ≡ (pos unit *ℤ sumOf (rowsWith g ks words cs v), pos 0)
-  unfolding cosine sine
-  zero-modes-sums zeros rules v p m =
-      projected-zero-modes (t .cosines) (t .sines) (generatorsOf g) ks (inputRows g words cs) zeros (pos unit) (rules .firstCosine)
-      (rules .firstSine) v p (rw table-is m)
+      pub zero-modes-sums : (v : Word) (p : Parts) → Member (v, p) (s .table) → p ≡ (pos unit *ℤ sumOf (rowsWith g ks words cs v), pos 0)
+      unfolding cosine sine
+      zero-modes-sums v p m =
+          projected-zero-modes (t .cosines) (t .sines) (generatorsOf g) ks (inputRows g words cs) zeros (pos unit) (answered-rules .firstCosine)
+          (answered-rules .firstSine) v p (rw table-is m)
 
 -- ---- 6 Words moved by a generator
 
@@ -205,6 +215,10 @@ checks-refuse checks x k vs e = go (verdict checks) refl e
     go (refused j ws) p q = cc
     go (answer tt) p q = absurd (refused-apart k vs x (sym q))
 
+-- a rule that is not broken may be left out
+skip-fine : (front : List Check) (check : Check) (rest : List Check) → check .broken ≡ false → verdict (front ++ (check ∷ rest)) ≡ verdict (front ++ rest)
+skip-fine front check rest e = verdict-append front (check ∷ rest) ∙ rw e (sym (verdict-append front rest))
+
 row-numbers : (n i : ℕ) (rows : List (List ℕ × ℤ)) (k : ℕ) → Member k (map (λ (c : Check). c .number) (rowChecks outOfRange n i rows))
     → Member k (17 ∷ 33 ∷ [])
 row-numbers n i [] k m = absurd m
@@ -223,15 +237,15 @@ with-rows n rows front k m = go (of-member-append front (map (λ c. c .number) (
 
 module _ (t : PhaseTable) (g : Group) (ks : List ℤ) (words : List ℕ) (cs : List ℤ) (a b c : ℕ) where
   -- nothing that passes the checks is refused
-  pub passing-answered : verdict (projectChecks g ks words cs a b c) ≡ answer tt
+  pub passing-answered : verdict (projectChecks t g ks words cs a b c) ≡ answer tt
       → projectOutcome t g ks words cs a b c ≡ answer (projectedSum t g ks (inputRows g words cs))
   unfolding projectOutcome
-  passing-answered = call-answers (projectChecks g ks words cs a b c) (answer (projectedSum t g ks (inputRows g words cs)))
+  passing-answered = call-answers (projectChecks t g ks words cs a b c) (answer (projectedSum t g ks (inputRows g words cs)))
 
   module _ (k : ℕ) (vs : List ℕ) (no : projectOutcome t g ks words cs a b c ≡ refused k vs) where
-    checks-no : verdict (projectChecks g ks words cs a b c) ≡ refused k vs
+    checks-no : verdict (projectChecks t g ks words cs a b c) ≡ refused k vs
     unfolding projectOutcome
-    checks-no = checks-refuse (projectChecks g ks words cs a b c) (projectedSum t g ks (inputRows g words cs)) k vs no
+    checks-no = checks-refuse (projectChecks t g ks words cs a b c) (projectedSum t g ks (inputRows g words cs)) k vs no
 
     -- the output lists are as they were
     pub refused-output : (was : List ℕ) (xs ys : List ℤ) (n : ℕ)
@@ -240,29 +254,41 @@ module _ (t : PhaseTable) (g : Group) (ks : List ℤ) (words : List ℕ) (cs : L
     refused-output was xs ys n = rw no (refl, refl, refl)
 
     -- a refusal is by one of these rules
-    pub refused-by : Member k (1 ∷ 14 ∷ 18 ∷ 32 ∷ 22 ∷ 23 ∷ 17 ∷ 33 ∷ [])
+    pub refused-by : Member k (1 ∷ 14 ∷ 18 ∷ 32 ∷ 35 ∷ 22 ∷ 23 ∷ 17 ∷ 33 ∷ [])
     refused-by =
-        with-rows (g .sites) (rowsIn words cs) (1 ∷ 14 ∷ 18 ∷ 32 ∷ 22 ∷ 23 ∷ []) k (verdict-number (projectChecks g ks words cs a b c) k vs checks-no)
+        with-rows (g .sites) (rowsIn words cs) (1 ∷ 14 ∷ 18 ∷ 32 ∷ 35 ∷ 22 ∷ 23 ∷ []) k (verdict-number (projectChecks t g ks words cs a b c) k vs checks-no)
 
     -- and by neither of the first two for a group that accepted generators give
-    pub refused-given : GivenBy g → Member k (18 ∷ 32 ∷ 22 ∷ 23 ∷ 17 ∷ 33 ∷ [])
+    pub refused-given : GivenBy g → Member k (18 ∷ 32 ∷ 35 ∷ 22 ∷ 23 ∷ 17 ∷ 33 ∷ [])
     refused-given by =
-        let later : List Check = modeCount g ks ∷ otherModulus g ∷ listChecks outOfRange (g .sites) words cs a b c in
+        let later : List Check = sectorChecks t g ks ++ listChecks outOfRange (g .sites) words cs a b c in
         let fine = value-passes g (given-accepted g by .few) (given-accepted g by .isOne) in
-        with-rows (g .sites) (rowsIn words cs) (18 ∷ 32 ∷ 22 ∷ 23 ∷ []) k
+        with-rows (g .sites) (rowsIn words cs) (18 ∷ 32 ∷ 35 ∷ 22 ∷ 23 ∷ []) k
         (verdict-number later k vs
         (sym (verdict-append (valueChecks g) later ∙ ap (λ (v : Outcome (Unit {0})). given v (verdict later)) fine) ∙ checks-no))
 
--- ---- 9 The constant table
+    -- and, with a table that passes its tests, never by 35
+    pub passing-by : passes t ≡ true → Member k (1 ∷ 14 ∷ 18 ∷ 32 ∷ 22 ∷ 23 ∷ 17 ∷ 33 ∷ [])
+    passing-by fine =
+        let front : List Check = valueChecks g ++ (modeCount g ks ∷ otherModulus g ∷ []) in
+        let rest : List Check = listChecks outOfRange (g .sites) words cs a b c in
+        let skipped = skip-fine front (brokenTable t) rest (ap not fine) in
+        with-rows (g .sites) (rowsIn words cs) (1 ∷ 14 ∷ 18 ∷ 32 ∷ 22 ∷ 23 ∷ []) k (verdict-number (front ++ rest) k vs (sym skipped ∙ checks-no))
 
-module _ (g : Group) (ks : List ℤ) (words : List ℕ) (cs : List ℤ) (a b c : ℕ)
-    (s : ProjectedSum) (answered : projectOutcome phaseTable g ks words cs a b c ≡ answer s) where
-  -- each part is a signed number of 64 bits
-  pub constant-inside : GivenBy g → Bytes words → (v : Word) (p : Parts) → Member (v, p) (s .table) → PartsWithin (2 ^ 62) p
-  constant-inside by small = answered-inside phaseTable g ks words cs a b c s answered by small constant-range
+  -- a table that does not is refused, whatever the lists are
+  pub broken-refused : GivenBy g → length ks ≡ g .generators → turn % modulus (generatorsOf g) ≡ 0 → passes t ≡ false
+      → projectOutcome t g ks words cs a b c ≡ refusalOf Refusal.PhaseRule
+  broken-refused by long divides broken =
+      project-refused t g ks words cs a b c Refusal.PhaseRule
+      (sector-refused t g ks words cs a b c (value-passes g (given-accepted g by .few) (given-accepted g by .isOne)) Refusal.PhaseRule
+      (table-breaks t g ks long divides broken))
 
-  -- if all modes are 0, each word has the sum of its rows' coefficients, in units, and no sine
-  pub constant-zero-modes :
-      ((k : ℤ) → Member k ks → k ≡ pos 0) → (v : Word) (p : Parts) → Member (v, p) (s .table)
-      → p ≡ (pos unit *ℤ sumOf (rowsWith g ks words cs v), pos 0)
-  constant-zero-modes zeros = zero-modes-sums phaseTable g ks words cs a b c s answered zeros constant-rules
+-- ---- 9 Tables that are never refused: the constant one, and the one that stands after a file was read, whatever the file holds
+
+module _ (g : Group) (ks : List ℤ) (words : List ℕ) (cs : List ℤ) (a b c k : ℕ) (vs : List ℕ) where
+  pub constant-by : projectOutcome phaseTable g ks words cs a b c ≡ refused k vs → Member k (1 ∷ 14 ∷ 18 ∷ 32 ∷ 22 ∷ 23 ∷ 17 ∷ 33 ∷ [])
+  constant-by e = passing-by phaseTable g ks words cs a b c k vs e constant-passes
+
+  pub read-by : (file : List ℕ) → projectOutcome (tableAfter (fileOutcome file)) g ks words cs a b c ≡ refused k vs
+      → Member k (1 ∷ 14 ∷ 18 ∷ 32 ∷ 22 ∷ 23 ∷ 17 ∷ 33 ∷ [])
+  read-by file e = passing-by (tableAfter (fileOutcome file)) g ks words cs a b c k vs e (after-passes file)

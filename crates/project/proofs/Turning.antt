@@ -18,7 +18,7 @@ use Rattle.momentum.specs.declared.inner.Placement.the-variants as Placement
 use Rattle.momentum.specs.Calls.{kept, dropped, Row, decision, rowWord}
 use Rattle.momentum.specs.Parts.{placementOf, indexIn}
 use Rattle.momentum.proofs.Placing.{keeps-word}
-use Rattle.phase_table.specs.Rules.{turn}
+use Rattle.phases.specs.Rules.{turn}
 use Rattle.projection.specs.Projection.{entryAt, entryOf, turned, turnedRow}
 use Rattle.projection.proofs.Entries.{entry-below}
 

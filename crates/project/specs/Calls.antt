@@ -19,8 +19,9 @@ use Rattle.keyed.specs.Keyed.{renamed}
 use Rattle.row_lists.specs.Rows.{rowsIn}
 use Rattle.row_lists.specs.Checks.{listChecks}
 use Rattle.row_words.specs.Words.{wordsFilled, filled}
-use Rattle.phase_table.specs.declared.PhaseTable.{PhaseTable}
-use Rattle.phase_table.specs.Rules.{turn, inRange}
+use Rattle.phases.specs.declared.PhaseTable.{PhaseTable}
+use Rattle.phases.specs.Rules.{turn, inRange}
+use Rattle.phases.specs.Checks.{brokenTable}
 use Rattle.projection.specs.Projection.{Parts, keptRows, droppedRows, projected}
 use Rattle.project.specs.declared.Projection.{Projection}
 use Rattle.project.specs.declared.Projection.the-variants as Projection
@@ -29,7 +30,7 @@ use Rattle.project.specs.declared.Projection.the-variants as Projection
 abbrev pub maxCoefficient : ℕ
 maxCoefficient = 2 ^ 20
 
--- ---- the checks: 1, 14, 18, 32, 22, 23, and then the rows in order, each for 17 and 33
+-- ---- the checks: 1, 14, 18, 32, 35, 22, 23, and then the rows in order, each for 17 and 33
 
 -- 32: the phase modulus does not divide the entries of a phase table
 abbrev pub otherModulus : Group → Check
@@ -40,9 +41,9 @@ abbrev pub outOfRange : ℕ → ℤ → Check
 outOfRange i c = rule (Refusal.CoefficientRange i) (not (inRange maxCoefficient c))
 
 -- the last three are the lengths of the output lists
-abbrev pub projectChecks : Group → List ℤ → List ℕ → List ℤ → ℕ → ℕ → ℕ → List Check
-projectChecks g ks words cs leasts cosines sines =
-    valueChecks g ++ (modeCount g ks ∷ otherModulus g ∷ listChecks outOfRange (g .sites) words cs leasts cosines sines)
+abbrev pub projectChecks : PhaseTable → Group → List ℤ → List ℕ → List ℤ → ℕ → ℕ → ℕ → List Check
+projectChecks t g ks words cs leasts cosines sines =
+    valueChecks g ++ (modeCount g ks ∷ otherModulus g ∷ brokenTable t ∷ listChecks outOfRange (g .sites) words cs leasts cosines sines)
 
 -- ---- the sum
 
@@ -66,7 +67,7 @@ projectedSum t g ks rows =
 
 unfoldable pub projectOutcome : PhaseTable → Group → List ℤ → List ℕ → List ℤ → ℕ → ℕ → ℕ → Outcome ProjectedSum
 projectOutcome t g ks words cs leasts cosines sines =
-    unless (projectChecks g ks words cs leasts cosines sines) (answer (projectedSum t g ks (inputRows g words cs)))
+    unless (projectChecks t g ks words cs leasts cosines sines) (answer (projectedSum t g ks (inputRows g words cs)))
 
 -- ---- the answer, and the output lists afterwards: as they were on a refusal; else the rows of the table, and zeros after them, k in all
 

@@ -18,8 +18,8 @@ use Rattle.group.specs.declared.Group.{Group}
 use Rattle.group.specs.Value.{generatorsOf}
 use Rattle.keyed.specs.Keyed.{Rising, keyOf}
 use Rattle.row_lists.specs.Rows.{rowAt}
-use Rattle.phase_table.specs.declared.PhaseTable.{PhaseTable}
-use Rattle.phase_table.specs.Rules.{turn, InRange}
+use Rattle.phases.specs.declared.PhaseTable.{PhaseTable}
+use Rattle.phases.specs.Rules.{turn, InRange}
 use Rattle.projection.specs.Projection.{Parts, noParts, entryOf, generatorIndex, rowsOf, sumAlong}
 use Rattle.project.specs.Calls.{ProjectedSum, inputRows}
 

@@ -15,7 +15,7 @@ use Rattle.keyed.specs.Keyed.{Fold, byPlace}
 use Rattle.row_lists.specs.Rows.{rowAt}
 use Rattle.row_lists.specs.Checks.{AcceptedRows}
 use Rattle.row_words.specs.Words.{byBytes}
-use Rattle.phase_table.specs.Rules.{turn, unit, InRange}
+use Rattle.phases.specs.Rules.{turn, unit, InRange}
 use Rattle.projection.specs.Projection.{Parts, noParts, keptRows, turnedRow}
 use Rattle.project.specs.declared.rows.Turned.{Turned}
 use Rattle.project.specs.Calls.{maxCoefficient}

@@ -1,4 +1,4 @@
-// The checks of a projected sum: 1, 14, 18, 32, 22, 23, and then its rows in order, each for 17 and 33. Whoever calls a function here owes its
+// The checks of a projected sum: 1, 14, 18, 32, 35, 22, 23, and then its rows in order, each for 17 and 33. Whoever calls a function here owes its
 // `requires`.
 ghost use mathlib.Core.Path.{_≡_};
 ghost use mathlib.Core.List.{[], _∷_};
@@ -11,13 +11,15 @@ ghost use Rattle.group.specs.Value.{AcceptedGroup};
 ghost use Rattle.momentum.specs.Calls.{modeCount};
 ghost use Rattle.row_lists.specs.Rows.{rowAt, rowsIn};
 ghost use Rattle.row_lists.specs.Checks.{rowRules, rowChecks, listChecks};
-ghost use Rattle.phase_table.specs.Rules.{inRange};
+ghost use Rattle.phases.specs.Rules.{inRange};
+ghost use Rattle.phases.specs.Checks.{brokenTable};
 ghost use Rattle.project.specs.Calls.{maxCoefficient, otherModulus, outOfRange, projectChecks};
 use crate::MAX_COEFFICIENT;
 use group::Group;
 use outcome::Refusal;
 use outcome::Verdict;
-use phase_table::PHASES;
+use phases::PHASES;
+use phases::PhaseTable;
 
 // Whether a coefficient is in its range.
 pub fn in_range(coefficient: i64) -> bool
@@ -87,23 +89,27 @@ pub fn lists_checked(
     }
 }
 
-// The checks of the modes: 18, 32.
-pub fn modes_checked(group: Group, modes: &[i32]) -> Verdict
+// The checks of the modes and the table: 18, 32, 35.
+pub fn sector_checked(table: PhaseTable, group: Group, modes: &[i32]) -> Verdict
     requires { ⌜ AcceptedGroup group ⌝ }
-    ensures { λ r. ⌜ outcomeOfVerdict r ≡ verdict (modeCount group (now (modes .entry)) ∷ otherModulus group ∷ []) ⌝ }
+    ensures { λ r. ⌜ outcomeOfVerdict r ≡ verdict (modeCount group (now (modes .entry)) ∷ otherModulus group ∷ brokenTable table ∷ []) ⌝ }
 {
     if modes.len() != group.generators {
         return Verdict::Refused(Refusal::ModeCount);
     }
-    if PHASES % group::inner::modulus_of(group) == 0 {
+    if PHASES % group::inner::modulus_of(group) != 0 {
+        return Verdict::Refused(Refusal::PhaseModulus);
+    }
+    if phases::passes(table) {
         Verdict::Accepted
     } else {
-        Verdict::Refused(Refusal::PhaseModulus)
+        Verdict::Refused(Refusal::PhaseRule)
     }
 }
 
 // All checks of a projected sum.
 pub fn projection_checked(
+    table: PhaseTable,
     group: Group,
     modes: &[i32],
     words: &[u8],
@@ -112,11 +118,11 @@ pub fn projection_checked(
     first: usize,
     second: usize,
 ) -> Verdict
-    ensures { λ r. ⌜ outcomeOfVerdict r ≡ verdict (projectChecks group (now (modes .entry)) (now (words .entry)) (now (coefficients .entry)) leasts first second) ⌝ }
+    ensures { λ r. ⌜ outcomeOfVerdict r ≡ verdict (projectChecks table group (now (modes .entry)) (now (words .entry)) (now (coefficients .entry)) leasts first second) ⌝ }
 {
     match group::inner::value_checked(group) {
         Verdict::Refused(why) => Verdict::Refused(why),
-        Verdict::Accepted => match modes_checked(group, modes) {
+        Verdict::Accepted => match sector_checked(table, group, modes) {
             Verdict::Refused(why) => Verdict::Refused(why),
             Verdict::Accepted => {
                 lists_checked(group.sites, words, coefficients, leasts, first, second)

@@ -7,7 +7,7 @@ ghost use Rattle.pauli_word.specs.Limits.{wordLength};
 ghost use Rattle.keyed.specs.Keyed.{tableOf, placed, placeValues};
 ghost use Rattle.row_lists.specs.Rows.{maxRows, rowsIn};
 ghost use Rattle.row_words.specs.Words.{wordsFilled, filled};
-ghost use Rattle.phase_table.specs.Rules.{InRange};
+ghost use Rattle.phases.specs.Rules.{InRange};
 ghost use Rattle.project.specs.Rows.{maxPart, wholeSums, wholeRows};
 use row_lists::MAX_ROWS;
 

@@ -12,7 +12,7 @@ ghost use Rattle.group.specs.Value.{generatorsOf};
 ghost use Rattle.keyed.specs.Keyed.{renamed};
 ghost use Rattle.row_lists.specs.Rows.{maxRows, withRow};
 ghost use Rattle.row_words.specs.Words.{wordsFilled, filled};
-ghost use Rattle.phase_table.specs.Rules.{InRange};
+ghost use Rattle.phases.specs.Rules.{InRange};
 ghost use Rattle.projection.specs.Projection.{keptRows, projected};
 ghost use Rattle.project.specs.Calls.{maxCoefficient, inputRows};
 ghost use Rattle.project.specs.Rows.{PhaseLists, Sector, WholeRows, turnedAs, turnedRows, TurnedRows};
@@ -20,8 +20,8 @@ use crate::parts;
 use group::Group;
 use momentum::inner::Placement;
 use pauli_word::WORD_BYTES;
-use phase_table::PHASES;
-use phase_table::PhaseTable;
+use phases::PHASES;
+use phases::PhaseTable;
 use row_lists::MAX_ROWS;
 
 // A row turned: whether its orbit is kept, and then its representative and what it adds along the cosine and the sine.

@@ -1,52 +1,21 @@
--- How large sums become: the magnitude of a sum is at most the sum of the magnitudes, and that of a product is the product.
--- The fact that carries it: a sum of k numbers, each of magnitude at most m, has magnitude at most k m (`fold-bound`).
-use Prim.Native.Nat.{ℕ, zero, suc, _+_, _*_, _-_, _≤_}
+-- How large sums of lists become. The fact that carries it: a sum of k numbers, each of magnitude at most m, has magnitude at most k m
+-- (`fold-bound`).
+use Prim.Native.Nat.{ℕ, _+_, _*_, _≤_}
 use native.Mathlib.Nat.{mul-le-mul, suc-mul}
 use native.Mathlib.Omega.{arith}
-use mathlib.Core.Path.{_≡_, refl}
+use mathlib.Core.Path.{refl}
 use mathlib.Core.Logic.{inl, inr}
-use mathlib.Core.Bool.{Bool, true, false, cond}
 use mathlib.Core.List.{List, [], _∷_, map}
-use lib.Dec.{ltb}
-use lib.IntN.{ℤ, pos, negsuc, negℤ, subℕ, _+ℤ_, _*ℤ_}
+use lib.IntN.{ℤ, pos, _+ℤ_, _*ℤ_}
 use lib.ListN.{length, getD, length-map}
 use Rattle.pauli_word.specs.Word.{Word}
 use Rattle.action.specs.Lists.{Member}
 use Rattle.action.specs.Permutation.{Generator}
 use Rattle.action.proofs.Lists.{of-member-map}
 use Rattle.keyed.specs.Keyed.{leftFold}
-use Rattle.phase_table.specs.Rules.{magnitude}
+use Rattle.phases.specs.Rules.{magnitude}
+use Rattle.phases.proofs.Ranges.{magnitude-sum, magnitude-product}
 use Rattle.projection.specs.Projection.{entryOf, sumAlong}
-
--- ---- one sum and one product
-
--- a number less a number above 0
-magnitude-difference : (a b : ℕ) → magnitude (subℕ a (suc b)) ≤ a + suc b
-magnitude-difference a b = go (ltb a (suc b))
-  where
-    go : (t : Bool) → magnitude (cond t (negsuc (suc b - suc a)) (pos (a - suc b))) ≤ a + suc b
-    go true = omega arith
-    go false = omega arith
-
--- a sum is at most as large as its summands together
-pub magnitude-sum : (a b : ℤ) → magnitude (a +ℤ b) ≤ magnitude a + magnitude b
-magnitude-sum (pos a) (pos b) = omega arith
-magnitude-sum (pos a) (negsuc b) = magnitude-difference a b
-magnitude-sum (negsuc a) (pos b) = omega (arith, magnitude-difference b a)
-magnitude-sum (negsuc a) (negsuc b) = omega arith
-
-magnitude-negative : (k : ℕ) → magnitude (negℤ (pos k)) ≡ k
-magnitude-negative zero = refl
-magnitude-negative (suc k) = refl
-
--- a product is as large as the product of its factors' magnitudes
-pub magnitude-product : (a b : ℤ) → magnitude (a *ℤ b) ≡ magnitude a * magnitude b
-magnitude-product (pos a) (pos b) = refl
-magnitude-product (pos a) (negsuc b) = magnitude-negative (a * suc b)
-magnitude-product (negsuc a) (pos b) = magnitude-negative (suc a * b)
-magnitude-product (negsuc a) (negsuc b) = refl
-
--- ---- sums of lists
 
 fold-bound-from :
     (m : ℕ) (z : ℤ) (xs : List ℤ) → ((x : ℤ) → Member x xs → magnitude x ≤ m)

@@ -47,7 +47,7 @@ use Rattle.action.proofs.Stabilizer.{fixes-intro}
 use Rattle.action.proofs.Characters.{modulus-positive, numerator-index-add}
 use Rattle.action.proofs.Kept.{keeps-orbit}
 use Rattle.action.proofs.Dropped.{breaks-elim, unbroken-elim, keeps-broken, some-breaks}
-use Rattle.phase_table.specs.Rules.{turn}
+use Rattle.phases.specs.Rules.{turn}
 use Rattle.projection.specs.Projection.{entryAt, entryOf, generatorIndex}
 
 -- ---- parts of a turn

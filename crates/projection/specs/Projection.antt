@@ -11,7 +11,7 @@ use Rattle.action.specs.Permutation.{Generator}
 use Rattle.action.specs.Index.{digits}
 use Rattle.action.specs.Orbit.{least, indexBack}
 use Rattle.action.specs.Sector.{modulus, numerator, keeps}
-use Rattle.phase_table.specs.Rules.{turn}
+use Rattle.phases.specs.Rules.{turn}
 use Rattle.keyed.specs.Keyed.{Fold, leftFold, tableOf}
 
 -- a number of two parts, along the cosine and along the sine

@@ -14,9 +14,9 @@ use lib.Seq.{length-take-le, getD-take, getD-set-same, getD-set-other}
 use Rattle.pauli_word.specs.Limits.{wordLength}
 use Rattle.pauli_word.specs.Bytes.{Bytes}
 use Rattle.action.specs.Lists.{Member}
-use Rattle.action.proofs.Lists.{of-member-append, member-append-left, member-append-right}
+use Rattle.action.proofs.Lists.{of-member-append, member-append-left, member-append-right, member-at}
 use Rattle.keyed.specs.Keyed.{rising, insertKey, found, free, slotOf, insertAt}
-use Rattle.keyed.proofs.Rising.{member-getD, rising-rising, rising-next, of-rising-member}
+use Rattle.keyed.proofs.Rising.{rising-rising, rising-next, of-rising-member}
 use Rattle.keyed.proofs.Rising.{insert-found, insert-free, slot-found-below, slot-found-at, slot-free-below}
 use Rattle.keyed.proofs.Tables.{map-insertAt}
 use Rattle.row_lists.specs.Rows.{maxRows, rowAt}
@@ -178,7 +178,7 @@ module _ {words : List ℕ} {i used : ℕ} {positions homes : List ℕ}
     found-place = rw words-first at (slot-found-below lessBytes (rowAt words i) (map (rowAt words) ps) k e)
 
     found-member : Member (getD positions k 0) ps
-    found-member = rw (getD-take used positions k 0 found-place) at (member-getD ps 0 k (rw first-used found-place))
+    found-member = rw (getD-take used positions k 0 found-place) at (member-at ps 0 k (rw first-used found-place))
 
     found-word : rowAt words (getD positions k 0) ≡ rowAt words i
     found-word =
@@ -210,7 +210,7 @@ module _ {words : List ℕ} {i used : ℕ} {positions homes : List ℕ}
           rw (← getD-take (used + 1) positions′ j 0 l)
           (⊎-elim (λ r. omega arith) (λ m. omega (arith, earlier (getD (take (used + 1) positions′) j 0) m))
           (free-positions (getD (take (used + 1) positions′) j 0)
-          (member-getD (take (used + 1) positions′) 0 j
+          (member-at (take (used + 1) positions′) 0 j
           (rw (length-take-le (used + 1) positions′ (omega (arith, places, free-room))) l))))
 
       pub held-free : Held words (i + 1) (used + 1) positions′ (set homes i i)

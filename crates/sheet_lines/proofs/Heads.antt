@@ -1,102 +1,38 @@
 -- The first three lines of a sheet.
 -- What carries it: a text is its first line, a line end, and the lines of the rest, so that each line's checks come before those of the rest
 -- (`first-decides`, `second-decides`, `third-decides`).
-use Prim.Native.Nat.{ℕ, _+_, _-_, _≤_, _<_}
-use mathlib.Core.Path.{_≡_, refl, sym, ap, ap₂, _∙_}
+use Prim.Native.Nat.{ℕ, _+_, _-_, _≤_}
+use mathlib.Core.Path.{_≡_, sym, ap, ap₂, _∙_}
 use mathlib.Core.Logic.{_⊎_, inl, inr}
 use mathlib.Core.Bool.{Bool, true, false, not, cond}
 use mathlib.Core.List.{List, [], _∷_}
 use native.Mathlib.Omega.{arith}
-use lib.Dec.{eqb}
 use lib.ListN.{length, getD, take, drop, length-drop}
 use lib.Seq.{drop-drop}
-use borrow.Author.Tests.{eqb-true, eqb-false, eq-eqb, ne-eqb}
 use Rattle.outcome.specs.declared.Refusal.{Refusal}
 use Rattle.outcome.specs.declared.Refusal.the-variants as Refusal
-use Rattle.outcome.specs.Outcome.{refusalOf, Outcome, answer, Check, verdict, given}
+use Rattle.outcome.specs.Outcome.{Outcome, answer, Check, verdict, given}
 use Rattle.action.specs.Lists.{sameNumbers}
 use Rattle.text.specs.Text.{lineEnd, before, pieces}
-use Rattle.text.proofs.Pieces.{before-short, pieces-last, pieces-next, pieces-some}
-use Rattle.outcome.proofs.Outcomes.{refused-apart, verdict-append}
+use Rattle.text.specs.Names.{namesRead}
+use Rattle.text.specs.declared.names.Names.the-variants as Names
+use Rattle.text.proofs.Pieces.{pieces-last, pieces-some}
+use Rattle.text.proofs.Lines.{Ended, ended-pieces, names-other}
+use Rattle.outcome.proofs.Outcomes.{verdict-append}
 use Rattle.sheet_lines.specs.declared.LineVerdict.the-variants as LineVerdict
 use Rattle.sheet_lines.specs.declared.head.Head.{Head}
 use Rattle.sheet_lines.specs.Lines.{shapeNames, wordNames, modesOf, lineShape, lineSites, shapeChecks, bodyChecks, thirdChecks, secondChecks, lineChecks}
-use Rattle.sheet_lines.specs.Parts.{refusedAt, namesRead, lineGroup, Ready}
-
--- ---- a line of names
-
-module _ (names text : List ℕ) (k : ℕ) (e : k ≡ length (before lineEnd text)) where
-  read-at : namesRead names text
-      ≡ cond (eqb k (length text)) (refusalOf Refusal.LineForm) (cond (sameNumbers (take k text) names) (answer k) (refusalOf Refusal.LineForm))
-  read-at =
-      ap (λ (j : ℕ). cond (eqb j (length text)) (refusalOf Refusal.LineForm) (cond (sameNumbers (take j text) names) (answer j) (refusalOf Refusal.LineForm))) (sym e)
-
-  pub names-missing : k ≡ length text → (refusalOf Refusal.LineForm) ≡ namesRead names text
-  names-missing h =
-      sym (read-at
-      ∙ ap (λ (t : Bool). cond t (refusalOf Refusal.LineForm) (cond (sameNumbers (take k text) names) (answer k) (refusalOf Refusal.LineForm))) (eq-eqb k (length text) h))
-
-  module _ (some : k ≡ length text → ⊥) where
-    there : namesRead names text ≡ cond (sameNumbers (take k text) names) (answer k) (refusalOf Refusal.LineForm)
-    there =
-        read-at
-        ∙ ap (λ (t : Bool). cond t (refusalOf Refusal.LineForm) (cond (sameNumbers (take k text) names) (answer k) (refusalOf Refusal.LineForm))) (ne-eqb k (length text) some)
-
-    pub names-same : sameNumbers (take k text) names ≡ true → answer k ≡ namesRead names text
-    names-same s = sym (there ∙ ap (λ (t : Bool). cond t (answer k) (refusalOf Refusal.LineForm)) s)
-
-    pub names-differ : sameNumbers (take k text) names ≡ false → (refusalOf Refusal.LineForm) ≡ namesRead names text
-    names-differ s = sym (there ∙ ap (λ (t : Bool). cond t (answer k) (refusalOf Refusal.LineForm)) s)
-
--- a line that ends at k
-pub record Ended (text : List ℕ) (k : ℕ) : Type 0 where
-  pub place : k ≡ length (before lineEnd text)
-  pub within : k < length text
-
-pub ended : (text : List ℕ) (k : ℕ) → k ≡ length (before lineEnd text) → (k ≡ length text → ⊥) → Ended text k
-ended text k e h = record { place = e; within = omega (arith, before-short lineEnd text) }
-
-pub names-ends : (names text : List ℕ) (a : ℕ) → namesRead names text ≡ answer a → Ended text a × (sameNumbers (take a text) names ≡ true)
-names-ends names text a e =
-    go (eqb (length (before lineEnd text)) (length text)) refl (sameNumbers (take (length (before lineEnd text)) text) names) refl e
-  where
-    go : (s : Bool) → eqb (length (before lineEnd text)) (length text) ≡ s
-        → (t : Bool) → sameNumbers (take (length (before lineEnd text)) text) names ≡ t
-        → cond s (refusalOf Refusal.LineForm) (cond t (answer (length (before lineEnd text))) (refusalOf Refusal.LineForm)) ≡ answer a
-        → Ended text a × (sameNumbers (take a text) names ≡ true)
-    go true x t y f = let no : _≡_ {A = ℕ} 0 1 = cc in absurd (omega arith)
-    go false x false y f = let no : _≡_ {A = ℕ} 0 1 = cc in absurd (omega arith)
-    go false x true y f =
-        let g : a ≡ length (before lineEnd text) = cc in
-        (ended text a g (λ h. eqb-false (length (before lineEnd text)) (length text) x (sym g ∙ h)), ap (λ (j : ℕ). sameNumbers (take j text) names) g ∙ y)
-
--- other names, or no line
-names-other : (names text : List ℕ) (why : Refusal) → namesRead names text ≡ refusalOf why
-    → (length (before lineEnd text) ≡ length text)
-    ⊎ (Ended text (length (before lineEnd text)) × (sameNumbers (take (length (before lineEnd text)) text) names ≡ false))
-names-other names text why e = go (eqb (length (before lineEnd text)) (length text)) refl (sameNumbers (take (length (before lineEnd text)) text) names) refl e
-  where
-    go : (s : Bool) → eqb (length (before lineEnd text)) (length text) ≡ s
-        → (t : Bool) → sameNumbers (take (length (before lineEnd text)) text) names ≡ t
-        → cond s (refusalOf Refusal.LineForm) (cond t (answer (length (before lineEnd text))) (refusalOf Refusal.LineForm)) ≡ refusalOf why
-        → (length (before lineEnd text) ≡ length text)
-        ⊎ (Ended text (length (before lineEnd text)) × (sameNumbers (take (length (before lineEnd text)) text) names ≡ false))
-    go true x t y f = inl (eqb-true (length (before lineEnd text)) (length text) x)
-    go false x true y f = absurd (refused-apart _ _ _ (sym f))
-    go false x false y f = inr (ended text _ refl (eqb-false (length (before lineEnd text)) (length text) x), y)
+use Rattle.sheet_lines.specs.Parts.{refusedAt, lineGroup, Ready}
 
 -- ---- the checks line by line
 
 module _ (text : List ℕ) (k : ℕ) (at : Ended text k) where
-  next : pieces lineEnd text ≡ take k text ∷ pieces lineEnd (drop (k + 1) text)
-  next = pieces-next lineEnd text k (at .place) (at .within)
-
   first-decides : verdict (lineChecks (pieces lineEnd text))
       ≡ cond (not (sameNumbers (take k text) shapeNames)) (refusedAt Refusal.LineForm 1) (verdict (secondChecks (pieces lineEnd (drop (k + 1) text))))
   unfolding lineChecks
   first-decides =
       let s = pieces-some lineEnd (drop (k + 1) text) in
-      ap (λ (ps : List (List ℕ)). verdict (lineChecks ps)) (next ∙ ap (λ (ps : List (List ℕ)). take k text ∷ ps) (s .2))
+      ap (λ (ps : List (List ℕ)). verdict (lineChecks ps)) (ended-pieces text k at ∙ ap (λ (ps : List (List ℕ)). take k text ∷ ps) (s .2))
       ∙ ap (λ (ps : List (List ℕ)). cond (not (sameNumbers (take k text) shapeNames)) (refusedAt Refusal.LineForm 1) (verdict (secondChecks ps))) (sym (s .2))
 
   second-decides : verdict (secondChecks (pieces lineEnd text))
@@ -106,7 +42,7 @@ module _ (text : List ℕ) (k : ℕ) (at : Ended text k) where
   second-decides =
       let s = pieces-some lineEnd (drop (k + 1) text) in
       let rest : List (List ℕ) → List Check = λ ps. thirdChecks (modesOf (lineShape (take k text))) (lineSites (take k text)) ps in
-      ap (λ (ps : List (List ℕ)). verdict (secondChecks ps)) (next ∙ ap (λ (ps : List (List ℕ)). take k text ∷ ps) (s .2))
+      ap (λ (ps : List (List ℕ)). verdict (secondChecks ps)) (ended-pieces text k at ∙ ap (λ (ps : List (List ℕ)). take k text ∷ ps) (s .2))
       ∙ verdict-append (shapeChecks (take k text) 2) (rest (s .0 ∷ s .1))
       ∙ ap (λ (ps : List (List ℕ)). given (verdict (shapeChecks (take k text) 2)) (verdict (rest ps))) (sym (s .2))
 
@@ -115,13 +51,13 @@ module _ (text : List ℕ) (k : ℕ) (at : Ended text k) where
   unfolding thirdChecks
   third-decides m n =
       let s = pieces-some lineEnd (drop (k + 1) text) in
-      ap (λ (ps : List (List ℕ)). verdict (thirdChecks m n ps)) (next ∙ ap (λ (ps : List (List ℕ)). take k text ∷ ps) (s .2))
+      ap (λ (ps : List (List ℕ)). verdict (thirdChecks m n ps)) (ended-pieces text k at ∙ ap (λ (ps : List (List ℕ)). take k text ∷ ps) (s .2))
       ∙ ap (λ (ps : List (List ℕ)). cond (not (sameNumbers (take k text) wordNames)) (refusedAt Refusal.LineForm 3) (verdict (bodyChecks m n ps 4))) (sym (s .2))
 
 -- the first line
-pub first-other : (text : List ℕ) (why : Refusal) → namesRead shapeNames text ≡ refusalOf why → refusedAt Refusal.LineForm 1 ≡ verdict (lineChecks (pieces lineEnd text))
+pub first-other : (text : List ℕ) → namesRead shapeNames text ≡ Names.Other → refusedAt Refusal.LineForm 1 ≡ verdict (lineChecks (pieces lineEnd text))
 unfolding lineChecks
-first-other text why e = go (names-other shapeNames text why e)
+first-other text e = go (names-other shapeNames text e)
   where
     go : (length (before lineEnd text) ≡ length text)
         ⊎ (Ended text (length (before lineEnd text)) × (sameNumbers (take (length (before lineEnd text)) text) shapeNames ≡ false))
@@ -162,10 +98,10 @@ module _ (text : List ℕ) (k : ℕ) (at : Ended text k) where
       given v (verdict (thirdChecks (modesOf (lineShape (take k text))) (lineSites (take k text)) (pieces lineEnd (drop (k + 1) text))))) e
 
 -- the third
-pub third-other : (m n : ℕ) (text : List ℕ) (why : Refusal) → namesRead wordNames text ≡ refusalOf why
+pub third-other : (m n : ℕ) (text : List ℕ) → namesRead wordNames text ≡ Names.Other
     → refusedAt Refusal.LineForm 3 ≡ verdict (thirdChecks m n (pieces lineEnd text))
 unfolding thirdChecks
-third-other m n text why e = go (names-other wordNames text why e)
+third-other m n text e = go (names-other wordNames text e)
   where
     go : (length (before lineEnd text) ≡ length text)
         ⊎ (Ended text (length (before lineEnd text)) × (sameNumbers (take (length (before lineEnd text)) text) wordNames ≡ false))
@@ -215,12 +151,12 @@ module _ (input text rest : List ℕ) (a b c : ℕ) (x : Ended input a) (first :
 
   lines-are : pieces lineEnd input ≡ take a input ∷ take b text ∷ take c rest ∷ pieces lineEnd (drop (a + b + c + 3) input)
   lines-are =
-      next input a x
+      ended-pieces input a x
       ∙ ap (λ (ps : List (List ℕ)). take a input ∷ ps)
       (ap (pieces lineEnd) (sym first)
-      ∙ next text b y
+      ∙ ended-pieces text b y
       ∙ ap (λ (ps : List (List ℕ)). take b text ∷ ps)
-      (ap (pieces lineEnd) (sym second) ∙ next rest c z ∙ ap (λ (t : List ℕ). take c rest ∷ pieces lineEnd t) body-rest))
+      (ap (pieces lineEnd) (sym second) ∙ ended-pieces rest c z ∙ ap (λ (t : List ℕ). take c rest ∷ pieces lineEnd t) body-rest))
 
   pub head-ready : (h : Head) → sameNumbers (take a input) shapeNames ≡ true → verdict (shapeChecks (take b text) 2) ≡ answer tt
       → sameNumbers (take c rest) wordNames ≡ true

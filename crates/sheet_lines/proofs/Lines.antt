@@ -29,7 +29,7 @@ use Rattle.group.specs.declared.Made.{Made}
 use Rattle.group.specs.Value.{groupOf, noGroup}
 use Rattle.group.specs.Calls.{latticeOutcome, chainOutcome, ladderOutcome, torus2Outcome, torus3Outcome}
 use Rattle.generators.proofs.Axes.{side-small}
-use Rattle.text.specs.Text.{isNumber, numberOf, isMode, modeOf}
+use Rattle.text.specs.Text.{isNumber, numberOf, isMode, signedOf}
 use Rattle.text.specs.Parts.{cap, modeRead, fourFields, fieldLength, fieldsRead}
 use Rattle.text.specs.declared.read.Mode.the-variants as Mode
 use Rattle.text.specs.declared.read.Fields.the-variants as Fields
@@ -43,10 +43,6 @@ use Rattle.sheet_lines.specs.Lines.{zeroText, shapeOf, isShape, sidesOf,
 use Rattle.sheet_lines.specs.Parts.{fitsWhere, modeOrZero, latticeFor, sidesGroup, lineGroup, refusedAt, atLine}
 use Rattle.outcome.proofs.Outcomes.{refused-apart}
 use Rattle.group.proofs.LatticeCalls.{any-zero}
-
--- what `&line[0..k]` denotes
-pub front-part : (k : ℕ) (line : List ℕ) → take (k - 0) line ≡ take k line
-front-part k line = let e : k - 0 ≡ k = omega arith in ap (λ (j : ℕ). take j line) e
 
 -- ---- shapes by their names
 
@@ -128,21 +124,21 @@ module _ (text : List ℕ) where
   pub mode-is : (k : ℤ) → modeRead text ≡ Mode.Value k → isMode text ≡ true
   mode-is k e = go (isMode text) e
     where
-      go : (b : Bool) → cond b (Mode.Value (modeOf text)) Mode.Other ≡ Mode.Value k → b ≡ true
+      go : (b : Bool) → cond b (Mode.Value (signedOf text)) Mode.Other ≡ Mode.Value k → b ≡ true
       go true f = refl
       go false f = let z : _≡_ {A = ℕ} 0 1 = cc in absurd (omega arith)
 
   pub mode-not : modeRead text ≡ Mode.Other → isMode text ≡ false
   mode-not e = go (isMode text) e
     where
-      go : (b : Bool) → cond b (Mode.Value (modeOf text)) Mode.Other ≡ Mode.Other → b ≡ false
+      go : (b : Bool) → cond b (Mode.Value (signedOf text)) Mode.Other ≡ Mode.Other → b ≡ false
       go true f = let z : _≡_ {A = ℕ} 0 1 = cc in absurd (omega arith)
       go false f = refl
 
   pub mode-value : (k : ℤ) → modeRead text ≡ Mode.Value k → k ≡ modeOrZero text
   mode-value k e = go (isMode text) e
     where
-      go : (b : Bool) → cond b (Mode.Value (modeOf text)) Mode.Other ≡ Mode.Value k → k ≡ cond b (modeOf text) (pos 0)
+      go : (b : Bool) → cond b (Mode.Value (signedOf text)) Mode.Other ≡ Mode.Value k → k ≡ cond b (signedOf text) (pos 0)
       go true f = cc
       go false f = let z : _≡_ {A = ℕ} 0 1 = cc in absurd (omega arith)
 

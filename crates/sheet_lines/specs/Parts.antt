@@ -3,9 +3,8 @@ use Prim.Native.Nat.{ℕ, _≤_}
 use mathlib.Core.Path.{_≡_}
 use mathlib.Core.Bool.{Bool, cond}
 use mathlib.Core.List.{List, [], _∷_}
-use lib.Dec.{eqb}
 use lib.IntN.{ℤ, pos}
-use lib.ListN.{length, getD, take, drop}
+use lib.ListN.{length, getD, drop}
 use Rattle.outcome.specs.declared.Refusal.{Refusal}
 use Rattle.outcome.specs.declared.Refusal.the-variants as Refusal
 use Rattle.outcome.specs.Outcome.{Outcome, refused, answer, ruleNumber, ruleValues, refusalOf, verdict}
@@ -14,7 +13,7 @@ use Rattle.action.specs.Lists.{sameNumbers}
 use Rattle.group.specs.declared.Group.{Group}
 use Rattle.group.specs.Value.{groupOf}
 use Rattle.group.specs.Calls.{chainOutcome, ladderOutcome, torus2Outcome, torus3Outcome}
-use Rattle.text.specs.Text.{lineEnd, before, pieces, numberOf, isMode, modeOf}
+use Rattle.text.specs.Text.{lineEnd, pieces, numberOf, isMode, signedOf}
 use Rattle.sheet_lines.specs.declared.line.Kind.{Kind}
 use Rattle.sheet_lines.specs.declared.line.Kind.the-variants as Kind
 use Rattle.sheet_lines.specs.declared.LineVerdict.{LineVerdict}
@@ -42,7 +41,7 @@ fitsWhere test used text = cond used (test text) (sameNumbers zeroText text)
 
 -- a text read as a mode; 0 where it is none
 abbrev pub modeOrZero : List ℕ → ℤ
-modeOrZero text = cond (isMode text) (modeOf text) (pos 0)
+modeOrZero text = cond (isMode text) (signedOf text) (pos 0)
 
 -- what making the lattice of a kind comes to; 31 for no shape
 abbrev pub latticeFor : Kind → ℕ → ℕ → ℕ → Outcome Group
@@ -59,12 +58,6 @@ sidesGroup kind a b c = groupOf (product (sidesUsed kind (a ∷ b ∷ c ∷ []))
 -- the group of a line of values
 abbrev pub lineGroup : List ℕ → Group
 lineGroup line = sidesGroup (lineShape line) (field 1 line) (field 2 line) (field 3 line)
-
--- where the first line of a text ends, if it is these names; else 31
-abbrev pub namesRead : List ℕ → List ℕ → Outcome ℕ
-namesRead names text =
-    let k = length (before lineEnd text) in
-    cond (eqb k (length text)) (refusalOf Refusal.LineForm) (cond (sameNumbers (take k text) names) (answer k) (refusalOf Refusal.LineForm))
 
 -- the first three lines of a sheet that break no rule: the shape's line, its group, how many modes are used, and where the value lines begin
 pub record Ready (input : List ℕ) (h : Head) : Type 0 where

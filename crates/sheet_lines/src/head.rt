@@ -2,16 +2,17 @@
 ghost use mathlib.Core.Path.{_≡_};
 ghost use Prim.Native.Nat.{ℕ, _≤_};
 ghost use Rattle.outcome.specs.declared.Refusal.{Refusal};
-ghost use Rattle.outcome.specs.Outcome.{verdict, outcomeOfNumber};
+ghost use Rattle.outcome.specs.Outcome.{verdict};
 ghost use Rattle.text.specs.Text.{lineEnd, pieces};
 ghost use Rattle.sheet_lines.specs.Lines.{lineChecks};
-ghost use Rattle.sheet_lines.specs.Parts.{refusedAt, namesRead, Ready};
+ghost use Rattle.sheet_lines.specs.Parts.{refusedAt, Ready};
 use crate::LineVerdict;
 use crate::line;
 use group::Group;
-use outcome::Number;
 use outcome::Refusal;
 use outcome::Verdict;
+use text::names;
+use text::names::Names;
 
 // What the checks of the three lines come to; the group, how many modes are used, and where the value lines begin.
 pub struct Head {
@@ -19,21 +20,6 @@ pub struct Head {
     pub group: Group,
     pub used: usize,
     pub body: usize,
-}
-
-// Where the first line of a text ends, if it is these names; else 31.
-pub fn names_end(names: &[u8], text: &[u8]) -> Number
-    ensures { λ r. ⌜ outcomeOfNumber r ≡ namesRead (now (names .entry)) (now (text .entry)) ⌝ }
-{
-    let k = text::read::find(text, 10);
-    if k == text.len() {
-        return Number::Refused(Refusal::LineForm);
-    }
-    if text::read::same(&text[0..k], names) {
-        Number::Value(k)
-    } else {
-        Number::Refused(Refusal::LineForm)
-    }
 }
 
 // A broken rule, with no group.
@@ -53,7 +39,7 @@ pub fn read_head(input: &[u8]) -> Head
     ensures fault { λ r. ⌜ ((why : Refusal) (line : ℕ) → r .answer ≡ LineVerdict.Refused why line → (refusedAt why line ≡ verdict (lineChecks (pieces lineEnd (now (input .entry))))) × (line ≤ 3)) ⌝ }
     ensures ready { λ r. ⌜ (r .answer ≡ LineVerdict.Accepted → Ready (now (input .entry)) r) ⌝ }
 {
-    let Number::Value(a) = names_end(b"shape a b c", input) else {
+    let Names::End(a) = names::names_end(b"shape a b c", input) else {
         return no_head(Refusal::LineForm, 1);
     };
     let text = &input[a + 1..];
@@ -67,7 +53,7 @@ pub fn read_head(input: &[u8]) -> Head
         return no_head(why, 2);
     }
     let rest = &text[b + 1..];
-    let Number::Value(c) = names_end(b"word k0 k1 k2", rest) else {
+    let Names::End(c) = names::names_end(b"word k0 k1 k2", rest) else {
         return no_head(Refusal::LineForm, 3);
     };
     let kind = shape.kind;

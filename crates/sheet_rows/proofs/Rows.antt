@@ -35,12 +35,12 @@ use Rattle.action.proofs.Canonical.{least-length, back-below}
 use Rattle.permutation.specs.Limits.{maxOrder}
 use Rattle.momentum.specs.declared.inner.Placement.{Placement}
 use Rattle.momentum.specs.declared.inner.Placement.the-variants as Placement
-use Rattle.text.specs.Text.{lineEnd, space, isMode, modeOf, decimal, put, maxWritten}
+use Rattle.text.specs.Text.{lineEnd, space, isMode, signedOf, decimal, put, maxWritten}
 use Rattle.text.specs.Parts.{fourFields, fieldLength, fieldsRead}
 use Rattle.text.specs.declared.read.Fields.{Fields}
 use Rattle.text.specs.declared.read.Fields.the-variants as Fields
-use Rattle.text.proofs.Puts.{put-put, put-length}
 use Rattle.text.proofs.Decimals.{written-short}
+use Rattle.text.proofs.Writing.{Writes, text-writes}
 use Rattle.text.proofs.Pieces.{part, FourParts, four-parts, parts-read}
 use Rattle.sheet_rows.specs.Rows.{refusedName, oneText, missing, joined, row, lineRow, numberRoom, numbersRoom, spread, refusalLine, rest}
 use Rattle.sheet_lines.specs.Lines.{zeroText, fields, field, firstPass, letterChecks, valueChecks, ruleAt}
@@ -52,46 +52,6 @@ use Rattle.momentum.proofs.Traversals.{placed-dropped}
 
 -- ---- texts one after the other
 
--- a text written into a list from a place on: where it ends, and the list afterwards
-pub record Writes (at : ℕ) (text list : List ℕ) (place : ℕ) (next : List ℕ) : Type 0 where
-  pub ends : place ≡ at + length text
-  pub made : next ≡ put at text list
-  pub room : at + length text ≤ length list
-
--- the list keeps its length
-pub writes-length : {at place : ℕ} {text list next : List ℕ} → Writes at text list place next → length next ≡ length list
-writes-length {at} {text} {list} w = ap length (w .made) ∙ put-length at text list (w .room)
-
--- what a text of at most m bytes leaves of the room
-pub writes-room :
-    {at place : ℕ} {text list next : List ℕ} (m n : ℕ) → Writes at text list place next → length text ≤ m → at + (m + n) ≤ length list
-    → place + n ≤ length next
-writes-room m n w short room = omega (arith, w .ends, writes-length w)
-
--- two texts
-pub writes-then :
-    {at p q : ℕ} {s t list mid next : List ℕ} → Writes at s list p mid → Writes p t mid q next → Writes at (s ++ t) list q next
-writes-then {at} {p} {q} {s} {t} {list} {mid} {next} v w =
-    let long : length mid ≡ length list = writes-length v in
-    let e : p ≡ at + length s = v .ends in
-    let r : p + length t ≤ length mid = w .room in
-    let d : length (s ++ t) ≡ length s + length t = length-append s t in
-    let k : q ≡ p + length t = w .ends in
-    record {
-      ends = omega arith;
-      made =
-          w .made
-          ∙ ap₂ (λ (j : ℕ) (l : List ℕ). put j t l) e (v .made)
-          ∙ put-put at s t list (omega arith);
-      room = omega arith;
-    }
-
--- as a function's contract has it
-pub text-writes :
-    {at place : ℕ} {text list next : List ℕ} → (place ≡ at + length text) × (next ≡ put at text list) → at + length text ≤ length list
-    → Writes at text list place next
-text-writes e room = record { ends = e .0; made = e .1; room = room }
-
 pub two-short : (i j : ℕ) → i < maxWritten → j < maxWritten → length ((space ∷ decimal i) ++ (space ∷ decimal j)) ≤ 2 * numberRoom
 two-short i j hi hj = omega (arith, written-short i hi, written-short j hj, length-append (space ∷ decimal i) (space ∷ decimal j))
 
@@ -99,10 +59,6 @@ pub number-writes :
     {at place number : ℕ} {list next : List ℕ} → (place ≡ at + length (space ∷ decimal number)) × (next ≡ put at (space ∷ decimal number) list)
     → number < maxWritten → at + numberRoom ≤ length list → Writes at (space ∷ decimal number) list place next
 number-writes {at} {number} e small room = text-writes e (omega (arith, written-short number small))
-
-pub writes-as :
-    {at place : ℕ} {s t list next : List ℕ} → Writes at s list place next → s ≡ t → (place ≡ at + length t) × (next ≡ put at t list)
-writes-as {at} {list} w e = (w .ends ∙ ap (λ (l : List ℕ). at + length l) e, w .made ∙ ap (λ (l : List ℕ). put at l list) e)
 
 -- ---- fields that follow each other
 
@@ -296,7 +252,7 @@ three-taken k x y z h = length-take-le (k - 0) (x ∷ y ∷ z ∷ []) (omega ari
 
 modes-taken :
     (k : ℕ) (p q r : List ℕ) → k ≤ 3 → every isMode (take k (p ∷ q ∷ r ∷ [])) ≡ true
-    → take k (modeOrZero p ∷ modeOrZero q ∷ modeOrZero r ∷ []) ≡ map modeOf (take k (p ∷ q ∷ r ∷ []))
+    → take k (modeOrZero p ∷ modeOrZero q ∷ modeOrZero r ∷ []) ≡ map signedOf (take k (p ∷ q ∷ r ∷ []))
 unfolding every
 modes-taken zero p q r h e = refl
 modes-taken (suc zero) p q r h e = let x = and-eq-true-iff (isMode p) true .0 e in simp (x .0)
@@ -370,7 +326,7 @@ module _ (used sites : ℕ) (line : List ℕ) (fine : verdict (valueChecks used 
       abbrev given : List ℤ
       given = take (used - 0) (x ∷ y ∷ z ∷ [])
 
-      line-modes : given ≡ map modeOf (take used (drop 1 (fields line)))
+      line-modes : given ≡ map signedOf (take used (drop 1 (fields line)))
       unfolding firstPass
       line-modes =
           let e : drop 1 (fields line) ≡ part (a + 1) b line ∷ part (b + 1) c line ∷ part (c + 1) (length line) line ∷ [] =
@@ -382,7 +338,7 @@ module _ (used sites : ℕ) (line : List ℕ) (fine : verdict (valueChecks used 
           in
           ap (λ (k : ℕ). take k (x ∷ y ∷ z ∷ [])) (sub-zero used)
           ∙ rw (ex, ey, ez) (modes-taken used _ _ _ few (ap (λ (ps : List (List ℕ)). every isMode (take used ps)) (sym e) ∙ passes))
-          ∙ ap (λ (ps : List (List ℕ)). map modeOf (take used ps)) (sym e)
+          ∙ ap (λ (ps : List (List ℕ)). map signedOf (take used ps)) (sym e)
 
       pub line-row : (gs : List Generator) → row gs (readText first) given ≡ lineRow used gs line
       unfolding lineRow

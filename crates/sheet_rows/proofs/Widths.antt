@@ -18,7 +18,7 @@ use Rattle.action.specs.Sector.{keeps, droppedBy}
 use Rattle.action.proofs.Dropped.{dropped-breaks}
 use Rattle.action.proofs.Canonical.{least-length, back-below}
 use Rattle.permutation.specs.Limits.{maxOrder}
-use Rattle.text.specs.Text.{decimal, modeOf, maxWritten}
+use Rattle.text.specs.Text.{decimal, signedOf, maxWritten}
 use Rattle.text.proofs.Pieces.{four-parts}
 use Rattle.sheet_lines.specs.Lines.{zeroText, fields, field, valueChecks}
 use Rattle.sheet_rows.specs.Rows.{oneText, missing, joined, row, lineRow, rowFields, numbersRoom, spread}
@@ -85,5 +85,5 @@ module _ {n : ℕ} {gs : List Generator} (valid : Valid n gs) (small : orderOf g
       let p = four-parts line four in
       let w : Word = readText (field 0 line) in
       let same : length w ≡ n = length-map (field 0 line) letter ∙ long in
-      let short = row-short valid small w same few (map modeOf (take used (drop 1 (fields line)))) in
+      let short = row-short valid small w same few (map signedOf (take used (drop 1 (fields line)))) in
       omega (arith, short, long, p .second, p .third, p .fourth)

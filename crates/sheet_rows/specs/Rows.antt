@@ -7,7 +7,7 @@ use Rattle.pauli_word.specs.Word.{Word, weight}
 use Rattle.pauli_word.specs.Text.{readText, spell}
 use Rattle.action.specs.Permutation.{Generator}
 use Rattle.momentum.specs.Calls.{Decision, kept, dropped, Row, decision}
-use Rattle.text.specs.Text.{lineEnd, space, modeOf, decimal, maxDigits}
+use Rattle.text.specs.Text.{lineEnd, space, signedOf, decimal, maxDigits}
 use Rattle.sheet_lines.specs.Lines.{zeroText, fields, field}
 
 -- ---- the words that they are written with
@@ -53,7 +53,7 @@ row gs w ks = joined (rowFields w (decision gs ks w))
 
 -- the row of a value line
 unfoldable pub lineRow : ℕ → List Generator → List ℕ → List ℕ
-lineRow m gs line = row gs (readText (field 0 line)) (map modeOf (take m (drop 1 (fields line))))
+lineRow m gs line = row gs (readText (field 0 line)) (map signedOf (take m (drop 1 (fields line))))
 
 -- ---- how long they are at most
 

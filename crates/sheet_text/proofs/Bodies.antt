@@ -4,12 +4,12 @@ use Prim.Native.Nat.{ℕ, suc, _+_, _-_, _*_, _≤_, _<_}
 use mathlib.Core.Path.{_≡_, refl, sym, ap, ap₂, _∙_}
 use mathlib.Core.Bool.{Bool, true, false, cond, _&&_, not}
 use mathlib.Core.List.{List, [], _∷_, _++_, append-assoc, append-nil}
-use native.Mathlib.Nat.{add-zero, add-assoc, add-sub-cancel-left}
+use native.Mathlib.Nat.{add-zero}
 use native.Mathlib.Numerals.{add-one}
 use native.Mathlib.Omega.{arith}
 use lib.Dec.{eqb, ltb}
 use lib.ListN.{length, take, drop, length-append, length-drop}
-use lib.Seq.{length-take-le, drop-drop}
+use lib.Seq.{length-take-le}
 use borrow.Author.Tests.{ne-eqb, eqb-true, eqb-false}
 use Rattle.outcome.specs.declared.Refusal.{Refusal}
 use Rattle.outcome.specs.declared.Refusal.the-variants as Refusal
@@ -21,6 +21,7 @@ use Rattle.outcome.proofs.Outcomes.{verdict-append, refused-apart}
 use Rattle.text.specs.Text.{lineEnd, before, pieces, isMode, put}
 use Rattle.text.specs.Parts.{fourFields}
 use Rattle.text.proofs.Pieces.{before-short, pieces-last, pieces-next, pieces-some}
+use Rattle.text.proofs.Lines.{line-slice, after-line}
 use Rattle.text.proofs.Puts.{put-nothing, put-length, put-put}
 use Rattle.sheet_lines.specs.Lines.{fields, field, firstPass, valueChecks, bodyChecks}
 use Rattle.sheet_rows.specs.Rows.{lineRow, spread}
@@ -65,16 +66,9 @@ module _ (m n : ℕ) (text : List ℕ) (k : ℕ) where
 
 -- ---- at a place of a text
 
--- a line of r bytes there, as a slice
-pub line-slice : (text : List ℕ) (at r : ℕ) → take (at + r - at) (drop at text) ≡ take r (drop at text)
-line-slice text at r = ap (λ (k : ℕ). take k (drop at text)) (add-sub-cancel-left at r)
-
+-- a line of r bytes there, as a slice, has as many
 pub line-long : (text : List ℕ) (at r : ℕ) → at + r < length text → length (take (at + r - at) (drop at text)) ≡ r
 line-long text at r h = ap length (line-slice text at r) ∙ length-take-le r (drop at text) (omega (arith, length-drop at text))
-
--- what follows it
-pub after-line : (text : List ℕ) (at r : ℕ) → drop (r + 1) (drop at text) ≡ drop (at + r + 1) text
-after-line text at r = drop-drop (r + 1) at text ∙ ap (λ (k : ℕ). drop k text) (sym (add-assoc at r 1))
 
 module _ (m n : ℕ) (text : List ℕ) (at r k : ℕ) (e : r ≡ length (before lineEnd (drop at text))) (h : at + r < length text) where
   inside : r < length (drop at text)

@@ -11,7 +11,7 @@ use Rattle.momentum.specs.Calls.{decision}
 use Rattle.action.specs.Lattice.{chain}
 use Rattle.action.specs.Orbit.{least, indexBack, orbitSize}
 use Rattle.action.specs.Sector.{keeps, droppedBy}
-use Rattle.text.specs.Text.{pieces, isNumber, numberOf, readOn, isMode, modeOf, decimal, digitsOf}
+use Rattle.text.specs.Text.{pieces, isNumber, numberOf, readOn, isSigned, signedOf, isMode, decimal, digitsOf}
 use Rattle.text.specs.Parts.{fourFields}
 use Rattle.sheet_lines.specs.Lines.{lineChecks, secondChecks, thirdChecks, bodyChecks, sideChecks, firstPass, shapeOf, generatorsFor}
 use Rattle.sheet_rows.specs.Rows.{joined, row, lineRow}
@@ -26,5 +26,5 @@ exampleTable =
     119 ∷ 111 ∷ 114 ∷ 100 ∷ 32 ∷ 114 ∷ 101 ∷ 112 ∷ 32 ∷ 105 ∷ 110 ∷ 100 ∷ 101 ∷ 120 ∷ 32 ∷ 111 ∷ 114 ∷ 98 ∷ 105 ∷ 116 ∷ 32 ∷ 119 ∷ 101 ∷ 105 ∷ 103 ∷ 104 ∷ 116 ∷ 32 ∷ 107 ∷ 101 ∷ 101 ∷ 112 ∷ 10 ∷ 88 ∷ 73 ∷ 73 ∷ 73 ∷ 32 ∷ 73 ∷ 73 ∷ 73 ∷ 88 ∷ 32 ∷ 49 ∷ 32 ∷ 52 ∷ 32 ∷ 49 ∷ 32 ∷ 49 ∷ 10 ∷ 88 ∷ 73 ∷ 88 ∷ 73 ∷ 32 ∷ 45 ∷ 32 ∷ 50 ∷ 32 ∷ 45 ∷ 32 ∷ 50 ∷ 32 ∷ 48 ∷ 10 ∷ 88 ∷ 73 ∷ 88 ∷ 73 ∷ 32 ∷ 73 ∷ 88 ∷ 73 ∷ 88 ∷ 32 ∷ 51 ∷ 32 ∷ 50 ∷ 32 ∷ 50 ∷ 32 ∷ 49 ∷ 10 ∷ []
 
 pub example-prints : sameNumbers (sheet example) exampleTable ≡ true
-unfolding sameNumbers sheet sheetOutcome lineChecks secondChecks thirdChecks bodyChecks sideChecks fourFields firstPass shapeOf pieces isNumber numberOf readOn isMode modeOf decimal digitsOf joined row decision lineRow rows table generatorsFor product every chain least indexBack orbitSize keeps droppedBy weight lettersAlone
+unfolding sameNumbers sheet sheetOutcome lineChecks secondChecks thirdChecks bodyChecks sideChecks fourFields firstPass shapeOf pieces isNumber numberOf readOn isSigned signedOf isMode decimal digitsOf joined row decision lineRow rows table generatorsFor product every chain least indexBack orbitSize keeps droppedBy weight lettersAlone
 example-prints = refl

@@ -45,18 +45,17 @@ digits-fit (suc f) (suc g) n l h = go (decLe 10 n) (digits-fit f g (n / 10) (ome
         ∙ ap (λ (l : List ℕ). l ++ ((zeroDigit + n % 10) ∷ [])) tenth
         ∙ sym (digits-more (suc f) n many)
 
--- ---- a number of at most d digits
+-- ---- a number of at most suc k digits
 
-decimal-digits : (d n : ℕ) → 0 < d → d ≤ wideDigits → n < 10 ^ d → decimal n ≡ digitsOf d n
+decimal-digits : (k n : ℕ) → k < wideDigits → n < 10 ^ suc k → decimal n ≡ digitsOf (suc k) n
 unfolding decimal
-decimal-digits zero n some wide h = absurd (omega arith)
-decimal-digits (suc f) n some wide h = digits-fit f (wideDigits - 1) n (omega arith) h
+decimal-digits k n wide h = digits-fit k (wideDigits - 1) n (omega arith) h
 
-pub decimal-short : (d n : ℕ) → 0 < d → d ≤ wideDigits → n < 10 ^ d → length (decimal n) ≤ d
-decimal-short d n some wide h = rw (decimal-digits d n some wide h) (digits-most d n)
+pub decimal-length : (k n : ℕ) → k < wideDigits → n < 10 ^ suc k → length (decimal n) ≤ suc k
+decimal-length k n wide h = rw (decimal-digits k n wide h) (digits-most (suc k) n)
 
 pub written-short : (n : ℕ) → n < maxWritten → length (decimal n) ≤ maxDigits
-written-short n h = decimal-short maxDigits n (omega arith) (omega arith) h
+written-short n h = decimal-length (maxDigits - 1) n (omega arith) h
 
 pub decimal-most : (n : ℕ) → length (decimal n) ≤ wideDigits
 unfolding decimal
@@ -71,7 +70,7 @@ unfolding decimal
 decimal-more n many h =
     digits-more (wideDigits - 1) n many
     ∙ ap (λ (l : List ℕ). l ++ ((zeroDigit + n % 10) ∷ []))
-    (sym (decimal-digits (wideDigits - 1) (n / 10) (omega arith) (omega arith) (tenth-below (wideDigits - 1) n h)))
+    (sym (decimal-digits (wideDigits - 2) (n / 10) (omega arith) (tenth-below (wideDigits - 1) n h)))
 
 -- ---- the loop that fills d places from the last one: what is left of the number, and the place of its last digit
 

@@ -1,28 +1,30 @@
 -- The definitions are what their names say: statements, with what shows them. The pieces of a text, with the byte between them, are the text, and no
--- piece has the byte; the fields are pieces; a number in decimal is read as that number, and its text is the only one that is; so is a mode's; a
--- text that is put into a list stands there, and the rest stays. What such laws leave open, as the base of the numbers, examples settle.
+-- piece has the byte; the fields are pieces; a number in decimal is read as that number, and its text is the only one that is; so are a
+-- signed number's and a mode's; a text that is put into a list stands there, and the rest stays. What such laws leave open, as the base of the numbers,
+-- examples settle.
 use Prim.Native.Nat.{ℕ, suc, _+_, _-_, _^_, _≤_, _<_}
 use mathlib.Core.Path.{_≡_, refl, sym, ap, ap₂, _∙_}
 use mathlib.Core.Bool.{Bool, true, false, _&&_, not, cond, false≢true, and-eq-true-iff}
 use mathlib.Core.List.{List, [], _∷_, _++_, map}
 use native.Mathlib.Omega.{arith}
-use lib.Dec.{eqb, leb, ltb}
-use lib.IntN.{ℤ, pos, negsuc}
+use lib.Dec.{eqb}
+use lib.IntN.{ℤ, pos, negsuc, natAbs}
 use lib.ListN.{length, getD, take, drop}
 use lib.Seq.{length-take-le, take-at, drop-at, drop-drop, take-append-seam, drop-append-seam}
-use borrow.Author.Tests.{eqb-true, eqb-false, ne-eqb, leb-true, le-leb, ltb-true, lt-ltb, not-true}
+use borrow.Author.Tests.{eqb-true, eqb-false, ne-eqb, leb-true, le-leb, not-true}
 use mir.Syntax.{w32}
 use mir.Val.{SFits}
 use Rattle.pauli_word.specs.Bytes.{byteValues}
 use Rattle.action.specs.Lists.{from, below, select, count, every}
-use Rattle.text.specs.Text.{lineEnd, space, minus, zeroDigit, nineDigit, before, extended, pieces, isDigit, isNumber, numberOf, modeBound, isMode, modeOf, digitsOf, wideDigits, decimal, put, parted, modeText}
-use Rattle.text.specs.Parts.{modeRead, fieldFrom, fourFields, fieldLength, fieldsRead}
+use Rattle.text.specs.Text.{lineEnd, space, minus, zeroDigit, nineDigit, before, extended, pieces, isDigit, isNumber, readOn, numberOf, isSigned, signedOf, inModes, isMode, digitsOf, wideDigits, decimal, put, parted, signedText}
+use Rattle.text.specs.Parts.{cap, clamped, signedRead, modeRead, fieldFrom, fourFields, fieldLength, fieldsRead}
 use Rattle.text.specs.Quoted.{bytes}
+use Rattle.text.specs.declared.read.Signed.the-variants as Signed
 use Rattle.text.specs.declared.read.Mode.the-variants as Mode
 use Rattle.text.specs.declared.read.Field.the-variants as Field
 use Rattle.text.specs.declared.read.Fields.the-variants as Fields
 use Rattle.text.proofs.Pieces.{pieces-some, FourParts, four-parts}
-use Rattle.text.proofs.Numbers.{signed, plain}
+use Rattle.text.proofs.Numbers.{value-signed, minus-first, plain-first, clamped-same, clamped-large, modes-fit, fit-modes, modes-small}
 use Rattle.text.proofs.Roundtrip.{digits-number, digits-isNumber, number-digits, number-begins}
 
 -- ---- bytes
@@ -140,56 +142,83 @@ pub decimal-examples :
 unfolding decimal digitsOf
 decimal-examples = refl
 
--- ---- modes
+-- ---- signed numbers
 
-pub mode-text : (z : ℤ) → SFits w32 z → (isMode (modeText z) ≡ true) × (modeOf (modeText z) ≡ z)
-mode-text (pos n) fits =
-    let wide : n < 10 ^ wideDigits = omega (arith, fits .sfits) in
+pub signed-text : (z : ℤ) → natAbs z < 10 ^ wideDigits → (isSigned (signedText z) ≡ true) × (signedOf (signedText z) ≡ z)
+signed-text (pos n) wide =
     let is = decimal-isNumber n wide in
-    let same = decimal-number n wide in
     let (some, other) = number-begins (decimal n) is in
-    let (test, value) = plain (decimal n) other some in
-    let low : numberOf (decimal n) < modeBound = omega (arith, fits .sfits, same) in
-    (test ∙ simp (is, lt-ltb (numberOf (decimal n)) modeBound low), value ∙ ap pos same)
-mode-text (negsuc n) fits =
-    let wide : suc n < 10 ^ wideDigits = omega (arith, fits .sfits) in
-    let is = decimal-isNumber (suc n) wide in
+    let (test, value) = plain-first (decimal n) other some in
+    (test ∙ is, value ∙ ap pos (decimal-number n wide))
+signed-text (negsuc n) wide =
     let same = decimal-number (suc n) wide in
-    let (test, value) = signed (minus ∷ decimal (suc n)) (omega arith) refl in
-    let low : numberOf (decimal (suc n)) ≤ modeBound = omega (arith, fits .sfits, same) in
+    let (test, value) = minus-first (minus ∷ decimal (suc n)) (omega arith) refl in
     let some : numberOf (decimal (suc n)) ≡ 0 → ⊥ = λ e. omega (arith, same) in
     let e : numberOf (decimal (suc n)) - 1 ≡ n = omega (arith, same) in
-    (test ∙ simp (is, ne-eqb (numberOf (decimal (suc n))) 0 some, le-leb (numberOf (decimal (suc n))) modeBound low), value ∙ ap negsuc e)
+    (test ∙ simp (decimal-isNumber (suc n) wide, ne-eqb (numberOf (decimal (suc n))) 0 some), value ∙ ap negsuc e)
 
-pub text-mode : (t : List ℕ) → isMode t ≡ true → SFits w32 (modeOf t) × (modeText (modeOf t) ≡ t)
-unfolding isMode modeOf
-text-mode [] h = absurd (false≢true h)
-text-mode (b ∷ bs) h = go (eqb b minus) refl h
+pub text-signed : (t : List ℕ) → isSigned t ≡ true → natAbs (signedOf t) < 10 ^ wideDigits → signedText (signedOf t) ≡ t
+unfolding isSigned signedOf
+text-signed [] h wide = absurd (false≢true h)
+text-signed (b ∷ bs) h wide = go (eqb b minus) refl h wide
   where
-    go : (t : Bool) → eqb b minus ≡ t
-        → cond t (isNumber bs && not (eqb (numberOf bs) 0) && leb (numberOf bs) modeBound) (isNumber (b ∷ bs) && ltb (numberOf (b ∷ bs)) modeBound) ≡ true
-        → SFits w32 (cond t (negsuc (numberOf bs - 1)) (pos (numberOf (b ∷ bs))))
-        × (modeText (cond t (negsuc (numberOf bs - 1)) (pos (numberOf (b ∷ bs)))) ≡ b ∷ bs)
-    go true e k =
-        let (front, high) = and-eq-true-iff (isNumber bs && not (eqb (numberOf bs) 0)) (leb (numberOf bs) modeBound) .0 k in
-        let (is, some) = and-eq-true-iff (isNumber bs) (not (eqb (numberOf bs) 0)) .0 front in
-        let small = leb-true (numberOf bs) modeBound high in
+    go : (t : Bool) → eqb b minus ≡ t → cond t (isNumber bs && not (eqb (numberOf bs) 0)) (isNumber (b ∷ bs)) ≡ true
+        → natAbs (cond t (negsuc (numberOf bs - 1)) (pos (numberOf (b ∷ bs)))) < 10 ^ wideDigits
+        → signedText (cond t (negsuc (numberOf bs - 1)) (pos (numberOf (b ∷ bs)))) ≡ b ∷ bs
+    go true e k small =
+        let (is, some) = and-eq-true-iff (isNumber bs) (not (eqb (numberOf bs) 0)) .0 k in
         let other = eqb-false (numberOf bs) 0 (not-true (eqb (numberOf bs) 0) some) in
         let one : suc (numberOf bs - 1) ≡ numberOf bs = omega arith in
-        (record { sfits = omega arith }, ap₂ _∷_ (sym (eqb-true b minus e)) (ap decimal one ∙ number-decimal bs is (omega arith)))
-    go false e k =
-        let (is, low) = and-eq-true-iff (isNumber (b ∷ bs)) (ltb (numberOf (b ∷ bs)) modeBound) .0 k in
-        let small = ltb-true (numberOf (b ∷ bs)) modeBound low in
-        (record { sfits = omega arith }, number-decimal (b ∷ bs) is (omega arith))
+        ap₂ _∷_ (sym (eqb-true b minus e)) (ap decimal one ∙ number-decimal bs is (omega arith))
+    go false e k small = number-decimal (b ∷ bs) k small
 
-pub mode-read : (z : ℤ) → SFits w32 z → modeRead (modeText z) ≡ Mode.Value z
+-- up to the cap, and below it
+pub signed-read : (z : ℤ) → natAbs z ≤ cap → signedRead (signedText z) ≡ Signed.Value z
+signed-read z near = let (is, value) = signed-text z (omega arith) in rw (is, value) (ap Signed.Value (clamped-same z near))
+
+pub read-signed : (t : List ℕ) (z : ℤ) → signedRead t ≡ Signed.Value z → natAbs z < cap → signedText z ≡ t
+read-signed t z e near =
+    let (is, same) = value-signed t z e in
+    let small = le-leb (natAbs (clamped (signedOf t))) (cap - 1) (omega (arith, ap natAbs same)) in
+    let low = leb-true (natAbs (signedOf t)) (cap - 1) (sym (clamped-large (cap - 1) (omega arith) (signedOf t)) ∙ small) in
+    ap signedText (same ∙ clamped-same (signedOf t) (omega arith)) ∙ text-signed t is (omega arith)
+
+-- a number of 30 digits, more than any number of 64 bits has
+abbrev long-number : List ℕ
+long-number = bytes "123456789012345678901234567890"
+
+pub signed-examples :
+    (map isSigned (bytes "0" ∷ bytes "-1" ∷ bytes "12" ∷ long-number ∷ []) ≡ true ∷ true ∷ true ∷ true ∷ [])
+    × (map isSigned (bytes "-0" ∷ bytes "01" ∷ bytes "-01" ∷ bytes "" ∷ bytes "-" ∷ bytes "+1" ∷ bytes "--1" ∷ bytes "1 " ∷ [])
+    ≡ false ∷ false ∷ false ∷ false ∷ false ∷ false ∷ false ∷ false ∷ [])
+    × (map signedOf (bytes "0" ∷ bytes "-1" ∷ bytes "12" ∷ bytes "-907" ∷ long-number ∷ [])
+    ≡ pos 0 ∷ negsuc 0 ∷ pos 12 ∷ negsuc 906 ∷ pos 123456789012345678901234567890 ∷ [])
+unfolding isSigned signedOf isNumber numberOf readOn every
+signed-examples = (refl, refl, refl)
+
+-- ---- modes
+
+pub mode-text : (z : ℤ) → SFits w32 z → (isMode (signedText z) ≡ true) × (signedOf (signedText z) ≡ z)
+unfolding isMode
+mode-text z fits =
+    let within = fit-modes z fits in
+    let (is, value) = signed-text z (omega (arith, modes-small z within)) in
+    (simp (is, value, within), value)
+
+pub text-mode : (t : List ℕ) → isMode t ≡ true → SFits w32 (signedOf t) × (signedText (signedOf t) ≡ t)
+unfolding isMode
+text-mode t h =
+    let (is, within) = and-eq-true-iff (isSigned t) (inModes (signedOf t)) .0 h in
+    (modes-fit (signedOf t) within, text-signed t is (omega (arith, modes-small (signedOf t) within)))
+
+pub mode-read : (z : ℤ) → SFits w32 z → modeRead (signedText z) ≡ Mode.Value z
 mode-read z fits = let (is, value) = mode-text z fits in rw is (ap Mode.Value value)
 
-pub read-mode : (t : List ℕ) (z : ℤ) → modeRead t ≡ Mode.Value z → SFits w32 z × (modeText z ≡ t)
+pub read-mode : (t : List ℕ) (z : ℤ) → modeRead t ≡ Mode.Value z → SFits w32 z × (signedText z ≡ t)
 read-mode t z e = go (isMode t) refl e
   where
-    go : (b : Bool) → isMode t ≡ b → cond b (Mode.Value (modeOf t)) Mode.Other ≡ Mode.Value z → SFits w32 z × (modeText z ≡ t)
-    go true is e = let same : z ≡ modeOf t = cc in rw same (text-mode t is)
+    go : (b : Bool) → isMode t ≡ b → cond b (Mode.Value (signedOf t)) Mode.Other ≡ Mode.Value z → SFits w32 z × (signedText z ≡ t)
+    go true is e = let same : z ≡ signedOf t = cc in rw same (text-mode t is)
     go false is e = let w : _≡_ {A = ℕ} 0 1 = cc in absurd (omega arith)
 
 -- ---- a text put into a list where there is room for it; `put-length` says that the list keeps its length

@@ -1,23 +1,25 @@
--- Digits, numbers that are read digit by digit up to a cap, and modes.
+-- Digits, numbers that are read digit by digit up to a cap, signed numbers, and modes.
 -- What carries it: reading on from a number never comes below it, so that above the cap nothing changes any more (`readOn-capped`).
 use Prim.Native.Nat.{ℕ, zero, suc, _+_, _-_, _*_, _≤_, _<_, min}
 use mathlib.Core.Path.{_≡_, refl, sym, ap, _∙_}
-use mathlib.Core.Bool.{Bool, true, false, _&&_, not, and-true, and-false}
+use mathlib.Core.Bool.{Bool, true, false, _&&_, not, cond, false≢true, true≢false, and-true, and-false}
 use mathlib.Core.List.{List, [], _∷_}
 use native.Mathlib.Nat.{le-trans, min-eq-left, min-eq-right}
 use native.Mathlib.Numerals.{add-one}
 use native.Mathlib.Omega.{arith}
-use lib.Dec.{eqb, leb, ltb}
-use lib.IntN.{ℤ, pos, negsuc, _-ℤ_, +ℤ-idl}
+use lib.Dec.{eqb, leb}
+use lib.IntN.{ℤ, pos, negsuc, natAbs, _-ℤ_, +ℤ-idl}
+use lib.Signed.{ltZ}
 use lib.ListN.{length, getD, drop, drop-of-length-le}
 use lib.Seq.{drop-cons}
-use borrow.Author.Tests.{eq-eqb, ne-eqb, le-leb, lt-leb, leb-true, leb-false, lt-ltb, le-ltb}
+use borrow.Author.Tests.{eq-eqb, ne-eqb, le-leb, lt-leb, leb-true, leb-false, ltb-true, ltb-false, lt-ltb, le-ltb}
 use mir.Syntax.{w32, w64}
 use mir.Val.{SFits, ofZ, toZ}
 use mir.ValLaws.{toZ-pos, toZ-ofZ}
 use Rattle.action.specs.Lists.{every}
-use Rattle.text.specs.Text.{minus, zeroDigit, nineDigit, isDigit, isNumber, readOn, numberOf, modeBound, isMode, modeOf}
-use Rattle.text.specs.Parts.{cap, modeRead}
+use Rattle.text.specs.Text.{minus, zeroDigit, nineDigit, isDigit, isNumber, readOn, numberOf, isSigned, signedOf, modeBound, inModes, isMode}
+use Rattle.text.specs.Parts.{cap, clamped, signedRead, modeIn, modeRead}
+use Rattle.text.specs.declared.read.Signed.the-variants as Signed
 use Rattle.text.specs.declared.read.Mode.the-variants as Mode
 
 -- ---- digits alone
@@ -110,77 +112,74 @@ capped-zero x v e z = omega arith
 pub zero-capped : (x v : ℕ) → v ≡ min x cap → x ≡ 0 → v ≡ 0
 zero-capped x v e z = omega arith
 
--- ---- modes
+-- ---- signed numbers
 
-pub mode-none : (text : List ℕ) → length text ≡ 0 → modeRead text ≡ Mode.Other
-unfolding isMode
-mode-none [] h = refl
-mode-none (b ∷ bs) h = absurd (omega arith)
+pub signed-none : (text : List ℕ) → length text ≡ 0 → signedRead text ≡ Signed.Other
+unfolding isSigned
+signed-none [] h = refl
+signed-none (b ∷ bs) h = absurd (omega arith)
+
+-- what a text that is read as a number, or as none, is
+module _ (text : List ℕ) where
+  pub value-signed : (z : ℤ) → signedRead text ≡ Signed.Value z → (isSigned text ≡ true) × (z ≡ clamped (signedOf text))
+  value-signed z e = go (isSigned text) e
+    where
+      go : (t : Bool) → cond t (Signed.Value (clamped (signedOf text))) Signed.Other ≡ Signed.Value z → (t ≡ true) × (z ≡ clamped (signedOf text))
+      go true e = (refl, cc)
+      go false e = let w : _≡_ {A = ℕ} 0 1 = cc in absurd (omega arith)
+
+  pub other-signed : signedRead text ≡ Signed.Other → isSigned text ≡ false
+  other-signed e = go (isSigned text) e
+    where
+      go : (t : Bool) → cond t (Signed.Value (clamped (signedOf text))) Signed.Other ≡ Signed.Other → t ≡ false
+      go true e = let w : _≡_ {A = ℕ} 0 1 = cc in absurd (omega arith)
+      go false e = refl
 
 -- a text that begins with a minus
-pub signed : (t : List ℕ) → 0 < length t → getD t 0 0 ≡ minus
-    → (isMode t ≡ (isNumber (drop 1 t) && not (eqb (numberOf (drop 1 t)) 0) && leb (numberOf (drop 1 t)) modeBound))
-    × (modeOf t ≡ negsuc (numberOf (drop 1 t) - 1))
-unfolding isMode modeOf
-signed [] s e = absurd (omega arith)
-signed (b ∷ bs) s e = (simp (eq-eqb b minus e), simp (eq-eqb b minus e))
+pub minus-first : (t : List ℕ) → 0 < length t → getD t 0 0 ≡ minus
+    → (isSigned t ≡ (isNumber (drop 1 t) && not (eqb (numberOf (drop 1 t)) 0))) × (signedOf t ≡ negsuc (numberOf (drop 1 t) - 1))
+unfolding isSigned signedOf
+minus-first [] s e = absurd (omega arith)
+minus-first (b ∷ bs) s e = (simp (eq-eqb b minus e), simp (eq-eqb b minus e))
 
 module _ (text : List ℕ) (some : 0 < length text) (m : getD text 0 0 ≡ minus) where
-  is : isMode text ≡ (isNumber (drop 1 text) && not (eqb (numberOf (drop 1 text)) 0) && leb (numberOf (drop 1 text)) modeBound)
-  is = signed text some m .0
+  is-minus : isSigned text ≡ (isNumber (drop 1 text) && not (eqb (numberOf (drop 1 text)) 0))
+  is-minus = minus-first text some m .0
 
-  pub minus-no-number : isNumber (drop 1 text) ≡ false → modeRead text ≡ Mode.Other
-  minus-no-number e = simp (is, e)
+  pub minus-no-number : isNumber (drop 1 text) ≡ false → signedRead text ≡ Signed.Other
+  minus-no-number e = simp (is-minus, e)
 
   module _ (v : ℕ) (e : v ≡ min (numberOf (drop 1 text)) cap) where
-    pub minus-zero : v ≡ 0 → modeRead text ≡ Mode.Other
+    pub minus-zero : v ≡ 0 → signedRead text ≡ Signed.Other
     minus-zero z =
         let n : numberOf (drop 1 text) ≡ 0 = omega arith in
-        simp (is, eq-eqb (numberOf (drop 1 text)) 0 n, and-false (isNumber (drop 1 text)))
+        simp (is-minus, eq-eqb (numberOf (drop 1 text)) 0 n, and-false (isNumber (drop 1 text)))
 
-    pub minus-large : modeBound < v → modeRead text ≡ Mode.Other
-    minus-large h =
-        let n : modeBound < numberOf (drop 1 text) = omega arith in
-        simp (is, lt-leb (numberOf (drop 1 text)) modeBound n, and-false (isNumber (drop 1 text) && not (eqb (numberOf (drop 1 text)) 0)))
-
-    pub minus-value : isNumber (drop 1 text) ≡ true → 0 < v → v ≤ modeBound → Mode.Value (negsuc (v - 1)) ≡ modeRead text
-    minus-value t p h =
-        let x : numberOf (drop 1 text) ≡ v = omega arith in
-        let n : numberOf (drop 1 text) ≤ modeBound = omega arith in
+    pub minus-value : isNumber (drop 1 text) ≡ true → 0 < v → Signed.Value (negsuc (v - 1)) ≡ signedRead text
+    minus-value t p =
+        let x : v - 1 ≡ min (numberOf (drop 1 text) - 1) (cap - 1) = omega arith in
         let z : numberOf (drop 1 text) ≡ 0 → ⊥ = λ k. omega arith in
-        let k : isMode text ≡ true = is ∙ simp (t, ne-eqb (numberOf (drop 1 text)) 0 z, le-leb (numberOf (drop 1 text)) modeBound n) in
-        sym (simp k (ap Mode.Value (signed text some m .1 ∙ ap (λ (y : ℕ). negsuc (y - 1)) x)))
+        let k : isSigned text ≡ true = is-minus ∙ simp (t, ne-eqb (numberOf (drop 1 text)) 0 z) in
+        sym (simp (k, minus-first text some m .1) (ap (λ (y : ℕ). Signed.Value (negsuc y)) (sym x)))
 
 -- a text that begins with another byte
-pub plain : (t : List ℕ) → (getD t 0 0 ≡ minus → ⊥) → 0 < length t
-    → (isMode t ≡ (isNumber t && ltb (numberOf t) modeBound)) × (modeOf t ≡ pos (numberOf t))
-unfolding isMode modeOf
-plain [] n s = absurd (omega arith)
-plain (b ∷ bs) n s = (simp (ne-eqb b minus n), simp (ne-eqb b minus n))
+pub plain-first : (t : List ℕ) → (getD t 0 0 ≡ minus → ⊥) → 0 < length t → (isSigned t ≡ isNumber t) × (signedOf t ≡ pos (numberOf t))
+unfolding isSigned signedOf
+plain-first [] n s = absurd (omega arith)
+plain-first (b ∷ bs) n s = (simp (ne-eqb b minus n), simp (ne-eqb b minus n))
 
 module _ (text : List ℕ) (some : 0 < length text) (m : getD text 0 0 ≡ minus → ⊥) where
-  is-plain : isMode text ≡ (isNumber text && ltb (numberOf text) modeBound)
-  is-plain = plain text m some .0
+  pub plain-no-number : isNumber text ≡ false → signedRead text ≡ Signed.Other
+  plain-no-number e = simp (plain-first text m some .0, e)
 
-  pub plain-no-number : isNumber text ≡ false → modeRead text ≡ Mode.Other
-  plain-no-number e = simp (is-plain, e)
-
-  module _ (v : ℕ) (e : v ≡ min (numberOf text) cap) where
-    pub plain-large : modeBound ≤ v → modeRead text ≡ Mode.Other
-    plain-large h =
-        let n : modeBound ≤ numberOf text = omega arith in
-        simp (is-plain, le-ltb (numberOf text) modeBound n, and-false (isNumber text))
-
-    pub plain-value : isNumber text ≡ true → v < modeBound → Mode.Value (toZ w32 v) ≡ modeRead text
-    plain-value t h =
-        let x : numberOf text ≡ v = omega arith in
-        let n : numberOf text < modeBound = omega arith in
-        let k : isMode text ≡ true = is-plain ∙ simp (t, lt-ltb (numberOf text) modeBound n) in
-        ap Mode.Value (toZ-pos w32 v (omega arith) ∙ sym (plain text m some .1 ∙ ap pos x)) ∙ sym (simp k)
+  pub plain-value : (v : ℕ) → v ≡ min (numberOf text) cap → isNumber text ≡ true → Signed.Value (toZ w64 v) ≡ signedRead text
+  plain-value v e t =
+      let k : isSigned text ≡ true = plain-first text m some .0 ∙ t in
+      ap Signed.Value (toZ-pos w64 v (omega arith)) ∙ sym (simp (k, plain-first text m some .1) (ap (λ (y : ℕ). Signed.Value (pos y)) (sym e)))
 
 -- ---- a value made negative, as the code computes it from bits
 
-module _ (v : ℕ) (some : 0 < v) (small : v ≤ modeBound) where
+module _ (v : ℕ) (some : 0 < v) (small : v ≤ cap) where
   less : pos 0 -ℤ toZ w64 v ≡ negsuc (v - 1)
   less = ap (λ (z : ℤ). pos 0 -ℤ z) (toZ-pos w64 v (omega arith)) ∙ go v some
     where
@@ -191,11 +190,93 @@ module _ (v : ℕ) (some : 0 < v) (small : v ≤ modeBound) where
   pub less-fits : SFits w64 (pos 0 -ℤ toZ w64 v)
   less-fits = rw less (record { sfits = omega arith })
 
-  narrow : toZ w64 (ofZ w64 (pos 0 -ℤ toZ w64 v)) ≡ negsuc (v - 1)
-  narrow = toZ-ofZ w64 (pos 0 -ℤ toZ w64 v) less-fits ∙ less
+  pub negated : toZ w64 (ofZ w64 (pos 0 -ℤ toZ w64 v)) ≡ negsuc (v - 1)
+  negated = toZ-ofZ w64 (pos 0 -ℤ toZ w64 v) less-fits ∙ less
 
-  pub narrow-fits : SFits w32 (toZ w64 (ofZ w64 (pos 0 -ℤ toZ w64 v)))
-  narrow-fits = rw narrow (record { sfits = omega arith })
+-- ---- numbers no further from 0 than the cap
 
-  pub negated : toZ w32 (ofZ w32 (toZ w64 (ofZ w64 (pos 0 -ℤ toZ w64 v)))) ≡ negsuc (v - 1)
-  negated = toZ-ofZ w32 (toZ w64 (ofZ w64 (pos 0 -ℤ toZ w64 v))) narrow-fits ∙ narrow
+same-leb : (b x y : ℕ) → (x ≤ b → y ≤ b) → (y ≤ b → x ≤ b) → leb x b ≡ leb y b
+same-leb b x y f g = go (leb x b) refl (leb y b) refl
+  where
+    go : (s : Bool) → leb x b ≡ s → (t : Bool) → leb y b ≡ t → s ≡ t
+    go true d true e = refl
+    go false d false e = refl
+    go true d false e = absurd (omega (arith, f (leb-true x b d), leb-false y b e))
+    go false d true e = absurd (omega (arith, g (leb-true y b e), leb-false x b d))
+
+pub clamped-same : (z : ℤ) → natAbs z ≤ cap → clamped z ≡ z
+clamped-same (pos n) h = ap pos (min-eq-left h)
+clamped-same (negsuc n) h = ap negsuc (min-eq-left (omega arith))
+
+-- a bound below the cap does not see it
+pub clamped-large : (bound : ℕ) → bound < cap → (z : ℤ) → leb (natAbs (clamped z)) bound ≡ leb (natAbs z) bound
+clamped-large bound low (pos n) = same-leb bound (min n cap) n (λ h. omega arith) (λ h. omega arith)
+clamped-large bound low (negsuc n) = same-leb bound (suc (min n (cap - 1))) (suc n) (λ h. omega arith) (λ h. omega arith)
+
+-- ---- modes
+
+pub modes-fit : (z : ℤ) → inModes z ≡ true → SFits w32 z
+modes-fit (pos n) h = record { sfits = ltb-true n modeBound h }
+modes-fit (negsuc n) h = record { sfits = ltb-true n modeBound h }
+
+pub fit-modes : (z : ℤ) → SFits w32 z → inModes z ≡ true
+fit-modes (pos n) fits = lt-ltb n modeBound (fits .sfits)
+fit-modes (negsuc n) fits = lt-ltb n modeBound (fits .sfits)
+
+pub modes-small : (z : ℤ) → inModes z ≡ true → natAbs z ≤ modeBound
+modes-small (pos n) h = omega (arith, ltb-true n modeBound h)
+modes-small (negsuc n) h = omega (arith, ltb-true n modeBound h)
+
+-- by the two tests of the code, at a number as the code has it
+module _ (z : ℤ) (f : SFits w64 z) where
+  held : toZ w64 (ofZ w64 z) ≡ z
+  held = toZ-ofZ w64 z f
+
+  pub mode-low : ltZ (toZ w64 (ofZ w64 z)) (negsuc (modeBound - 1)) ≡ true → Mode.Other ≡ modeIn z
+  mode-low h = go z (rw held at h)
+    where
+      go : (y : ℤ) → ltZ y (negsuc (modeBound - 1)) ≡ true → Mode.Other ≡ modeIn y
+      go (pos n) l = absurd (false≢true l)
+      go (negsuc n) l = rw (le-ltb n modeBound (omega (arith, ltb-true (modeBound - 1) n l)))
+
+  pub mode-high : ltZ (toZ w64 (ofZ w64 z)) (pos modeBound) ≡ false → Mode.Other ≡ modeIn z
+  mode-high h = go z (rw held at h)
+    where
+      go : (y : ℤ) → ltZ y (pos modeBound) ≡ false → Mode.Other ≡ modeIn y
+      go (pos n) l = rw l
+      go (negsuc n) l = absurd (true≢false l)
+
+  module _ (low : ltZ (toZ w64 (ofZ w64 z)) (negsuc (modeBound - 1)) ≡ false) (high : ltZ (toZ w64 (ofZ w64 z)) (pos modeBound) ≡ true) where
+    within : inModes z ≡ true
+    within = go z (rw held at low) (rw held at high)
+      where
+        go : (y : ℤ) → ltZ y (negsuc (modeBound - 1)) ≡ false → ltZ y (pos modeBound) ≡ true → inModes y ≡ true
+        go (pos n) l h = h
+        go (negsuc n) l h = lt-ltb n modeBound (omega (arith, ltb-false (modeBound - 1) n l))
+
+    pub mode-narrow : SFits w32 (toZ w64 (ofZ w64 z))
+    mode-narrow = rw held (modes-fit z within)
+
+    pub mode-value : Mode.Value (toZ w32 (ofZ w32 (toZ w64 (ofZ w64 z)))) ≡ modeIn z
+    mode-value = rw (held, within) (ap Mode.Value (toZ-ofZ w32 z (modes-fit z within)))
+
+clamped-modes : (z : ℤ) → inModes (clamped z) ≡ inModes z
+clamped-modes (pos n) = same-leb modeBound (suc (min n cap)) (suc n) (λ h. omega arith) (λ h. omega arith)
+clamped-modes (negsuc n) = clamped-large modeBound (omega arith) (negsuc n)
+
+clamped-mode : (z : ℤ) → modeIn (clamped z) ≡ modeIn z
+clamped-mode z = go (inModes z) refl
+  where
+    go : (t : Bool) → inModes z ≡ t → modeIn (clamped z) ≡ modeIn z
+    go true e = ap modeIn (clamped-same z (omega (arith, modes-small z e)))
+    go false e = simp (clamped-modes z, e)
+
+-- a text read as a mode, by the number that it is read as
+module _ (text : List ℕ) where
+  pub value-mode : (z : ℤ) → signedRead text ≡ Signed.Value z → modeIn z ≡ modeRead text
+  unfolding isMode
+  value-mode z e = let (is, same) = value-signed text z e in rw (same, is) (clamped-mode (signedOf text))
+
+  pub other-mode : signedRead text ≡ Signed.Other → Mode.Other ≡ modeRead text
+  unfolding isMode
+  other-mode e = rw (other-signed text e)

@@ -1,10 +1,10 @@
--- Texts that are the same, the first piece of a text, all its pieces, and the fields of a line.
+-- Texts that are the same, the first piece of a text, all its pieces, pieces put together, and the fields of a line.
 -- What carries it: a text is its first piece alone, or its first piece, a byte that parts, and the pieces of the rest (`pieces-last`, `pieces-next`).
 use Prim.Native.Nat.{ℕ, suc, _+_, _-_, _≤_, _<_}
 use mathlib.Core.Path.{_≡_, refl, sym, ap, subst, _∙_}
 use mathlib.Core.Logic.{_⊎_, inl, inr}
 use mathlib.Core.Bool.{Bool, true, false, _&&_, not, cond, false≢true, and-eq-true-iff, and-false}
-use mathlib.Core.List.{List, [], _∷_}
+use mathlib.Core.List.{List, [], _∷_, _++_, append-nil}
 use native.Mathlib.Nat.{eq-or-lt-of-le, le-of-suc-le-suc}
 use native.Mathlib.Numerals.{add-one}
 use native.Mathlib.Omega.{arith}
@@ -15,7 +15,7 @@ use borrow.Author.Tests.{eqb-true, eqb-false, eq-eqb, ne-eqb, not-true}
 use Rattle.pauli_word.proofs.Words.{rest-part}
 use Rattle.action.specs.Lists.{sameNumbers, every}
 use Rattle.action.proofs.Lists.{sameNumbers-eq}
-use Rattle.text.specs.Text.{space, before, extended, pieces}
+use Rattle.text.specs.Text.{space, before, extended, pieces, parted}
 use Rattle.text.specs.Parts.{fourFields, fieldLength, fieldFrom, fieldsRead}
 use Rattle.text.specs.declared.read.Field.{Field}
 use Rattle.text.specs.declared.read.Field.the-variants as Field
@@ -119,14 +119,14 @@ parted-step c b bs false e r =
     subst (λ (p : List ℕ). Parted c (length p) (b ∷ bs)) (sym (before-other c b bs e))
     (λ h. pieces-other c b bs e ∙ ap (extended b) (r (le-of-suc-le-suc h)))
 
-parted : (c : ℕ) (text : List ℕ) → Parted c (length (before c text)) text
-parted c [] = λ h. absurd (omega arith)
-parted c (b ∷ bs) = parted-step c b bs (eqb b c) refl (parted c bs)
+parted-before : (c : ℕ) (text : List ℕ) → Parted c (length (before c text)) text
+parted-before c [] = λ h. absurd (omega arith)
+parted-before c (b ∷ bs) = parted-step c b bs (eqb b c) refl (parted-before c bs)
 
 pub pieces-next : (c : ℕ) (text : List ℕ) (k : ℕ) → k ≡ length (before c text) → k < length text
     → pieces c text ≡ take k text ∷ pieces c (drop (k + 1) text)
 pieces-next c text k e h =
-    subst (λ (j : ℕ). Parted c j text) (sym e) (parted c text) h
+    subst (λ (j : ℕ). Parted c j text) (sym e) (parted-before c text) h
     ∙ ap (λ (j : ℕ). take k text ∷ pieces c (drop j text)) (sym (add-one k))
 
 pub pieces-some : (c : ℕ) (text : List ℕ) → (p : List ℕ) × (ps : List (List ℕ)) × (pieces c text ≡ p ∷ ps)
@@ -166,6 +166,27 @@ pieces-only c text p e = go (eq-or-lt-of-le (before-short c text))
         let f : take k text ∷ s .0 ∷ s .1 ≡ p ∷ [] = ap (λ (ps : List (List ℕ)). take k text ∷ ps) (sym (s .2)) ∙ sym (pieces-next c text k refl h) ∙ e in
         let z : _≡_ {A = ℕ} (suc (suc (length (s .1)))) 1 = ap length f in
         absurd (omega arith)
+
+-- a piece in front of a text that begins with the end of it
+pieces-front : (c : ℕ) (p rest : List ℕ) (ps : List (List ℕ)) → every (λ b. not (eqb b c)) p ≡ true → pieces c rest ≡ [] ∷ ps
+    → pieces c (p ++ rest) ≡ p ∷ ps
+unfolding every
+pieces-front c [] rest ps h e = e
+pieces-front c (b ∷ bs) rest ps h e =
+    let (other, others) = and-eq-true-iff (not (eqb b c)) (every (λ b. not (eqb b c)) bs) .0 h in
+    pieces-other c b (bs ++ rest) (not-true (eqb b c) other) ∙ ap (extended b) (pieces-front c bs rest ps others e)
+
+-- pieces that do not have the byte, with it between them
+pub parted-pieces : (c : ℕ) (p : List ℕ) (ps : List (List ℕ)) → every (λ q. every (λ b. not (eqb b c)) q) (p ∷ ps) ≡ true
+    → pieces c (parted c (p ∷ ps)) ≡ p ∷ ps
+unfolding every pieces
+parted-pieces c p [] h =
+    ap (pieces c) (sym (append-nil p)) ∙ pieces-front c p [] [] (and-eq-true-iff (every (λ b. not (eqb b c)) p) true .0 h .0) refl
+parted-pieces c p (q ∷ ps) h =
+    let (first, others) = and-eq-true-iff (every (λ b. not (eqb b c)) p) (every (λ q. every (λ b. not (eqb b c)) q) (q ∷ ps)) .0 h in
+    let rest : List ℕ = parted c (q ∷ ps) in
+    pieces-front c p (c ∷ rest) (q ∷ ps) first
+    (pieces-found c c rest (eq-eqb c c refl) ∙ ap (λ (l : List (List ℕ)). [] ∷ l) (parted-pieces c q ps others))
 
 -- ---- the four fields of a line
 

@@ -1,19 +1,19 @@
--- Numbers, written and read again, and read and written again, however many digits they have.
+-- Numbers, written and read again, and read and written again, however many digits they have; the bytes that a signed number has not.
 -- What carries it: a number in decimal is one digit, or a number above 0 and a digit after it (`number-view`), as `digitsOf` writes it.
 use Prim.Native.Nat.{ℕ, zero, suc, _+_, _-_, _*_, _/_, _%_, _^_, _≤_, _<_}
 use mathlib.Core.Path.{_≡_, refl, sym, ap, ap₂, _∙_}
 use mathlib.Core.Logic.{_⊎_, inl, inr}
-use mathlib.Core.Bool.{true, _&&_, not, false≢true, and-eq-true-iff}
+use mathlib.Core.Bool.{Bool, true, false, _&&_, not, cond, false≢true, and-eq-true-iff}
 use mathlib.Core.List.{List, [], _∷_, _++_}
 use native.Mathlib.Nat.{pow-succ'}
 use native.Mathlib.Decide.{decLe}
 use native.Mathlib.Omega.{arith}
 use lib.Dec.{eqb, leb}
 use lib.ListN.{length, getD}
-use borrow.Author.Tests.{eqb-false, ne-eqb, leb-true, not-true}
+use borrow.Author.Tests.{eqb-true, eqb-false, ne-eqb, leb-true, not-true}
 use Rattle.action.specs.Lists.{every}
-use Rattle.action.proofs.Lists.{every-append}
-use Rattle.text.specs.Text.{minus, zeroDigit, nineDigit, isDigit, isNumber, readOn, numberOf, digitsOf}
+use Rattle.action.proofs.Lists.{every-intro, every-elim, every-append}
+use Rattle.text.specs.Text.{minus, zeroDigit, nineDigit, isDigit, isNumber, readOn, numberOf, isSigned, digitsOf}
 use Rattle.text.proofs.Numbers.{digit-within, readOn-grows}
 use Rattle.text.proofs.Decimals.{digits-one, digits-more, tenth-below}
 
@@ -157,3 +157,33 @@ unfolding isNumber
 number-begins [] h = absurd (false≢true h)
 number-begins (b ∷ []) h = (omega arith, λ e. omega (arith, digit-bounds b h))
 number-begins (b ∷ c ∷ bs) h = (omega arith, λ e. omega (arith, digit-bounds b (number-parts b c bs h .0)))
+
+-- ---- the bytes of a signed number
+
+number-bytes : (t : List ℕ) → isNumber t ≡ true → every isDigit t ≡ true
+unfolding isNumber every
+number-bytes [] h = refl
+number-bytes (b ∷ []) h = simp h
+number-bytes (b ∷ c ∷ bs) h = let (first, other, rest) = number-parts b c bs h in and-eq-true-iff (isDigit b) (every isDigit (c ∷ bs)) .1 (first, rest)
+
+-- no byte of it lies below the minus: no space, no line end
+module _ (c : ℕ) (low : c < minus) where
+  other-byte : (b : ℕ) → minus ≤ b → not (eqb b c) ≡ true
+  other-byte b h = ap not (ne-eqb b c (λ e. omega arith))
+
+  number-without : (t : List ℕ) → isNumber t ≡ true → every (λ b. not (eqb b c)) t ≡ true
+  number-without t h =
+      every-intro (λ b. not (eqb b c)) t (λ b m. other-byte b (omega (arith, digit-bounds b (every-elim isDigit t (number-bytes t h) b m))))
+
+  pub signed-without : (t : List ℕ) → isSigned t ≡ true → every (λ b. not (eqb b c)) t ≡ true
+  unfolding isSigned every
+  signed-without [] h = refl
+  signed-without (b ∷ bs) h = go (eqb b minus) refl h
+    where
+      go : (t : Bool) → eqb b minus ≡ t → cond t (isNumber bs && not (eqb (numberOf bs) 0)) (isNumber (b ∷ bs)) ≡ true
+          → every (λ b. not (eqb b c)) (b ∷ bs) ≡ true
+      go true e k =
+          let first = other-byte b (omega (arith, eqb-true b minus e)) in
+          and-eq-true-iff (not (eqb b c)) (every (λ b. not (eqb b c)) bs) .1
+          (first, number-without bs (and-eq-true-iff (isNumber bs) (not (eqb (numberOf bs) 0)) .0 k .0))
+      go false e k = number-without (b ∷ bs) k

@@ -69,22 +69,30 @@ unfoldable pub numberOf : List ℕ → ℕ
 unfolding readOn
 numberOf bs = readOn 0 bs
 
+-- a signed number in decimal: an optional minus before it, which 0 has not
+unfoldable pub isSigned : List ℕ → Bool
+unfolding isNumber numberOf
+isSigned [] = false
+isSigned (b ∷ bs) = cond (eqb b minus) (isNumber bs && not (eqb (numberOf bs) 0)) (isNumber (b ∷ bs))
+
+-- the signed number that a text writes
+unfoldable pub signedOf : List ℕ → ℤ
+unfolding numberOf
+signedOf [] = pos 0
+signedOf (b ∷ bs) = cond (eqb b minus) (negsuc (numberOf bs - 1)) (pos (numberOf (b ∷ bs)))
+
 -- modes lie below it, and no lower than minus it
 abbrev pub modeBound : ℕ
 modeBound = 2 ^ 31
 
--- a mode: a number of 32 bits with a sign, an optional minus before it, which 0 has not
-unfoldable pub isMode : List ℕ → Bool
-unfolding isNumber numberOf
-isMode [] = false
-isMode (b ∷ bs) =
-    cond (eqb b minus) (isNumber bs && not (eqb (numberOf bs) 0) && leb (numberOf bs) modeBound) (isNumber (b ∷ bs) && ltb (numberOf (b ∷ bs)) modeBound)
+-- whether a number is a mode: a signed number of 32 bits
+abbrev pub inModes : ℤ → Bool
+inModes (pos n) = ltb n modeBound
+inModes (negsuc n) = ltb n modeBound
 
--- the mode that a text writes
-unfoldable pub modeOf : List ℕ → ℤ
-unfolding numberOf
-modeOf [] = pos 0
-modeOf (b ∷ bs) = cond (eqb b minus) (negsuc (numberOf bs - 1)) (pos (numberOf (b ∷ bs)))
+-- a mode
+unfoldable pub isMode : List ℕ → Bool
+isMode text = isSigned text && inModes (signedOf text)
 
 -- the digits of a number, most significant first; the first argument bounds how many
 unfoldable pub digitsOf : ℕ → ℕ → List ℕ
@@ -101,9 +109,9 @@ unfolding digitsOf
 decimal n = digitsOf wideDigits n
 
 -- a signed number in decimal
-abbrev pub modeText : ℤ → List ℕ
-modeText (pos n) = decimal n
-modeText (negsuc n) = minus ∷ decimal (suc n)
+abbrev pub signedText : ℤ → List ℕ
+signedText (pos n) = decimal n
+signedText (negsuc n) = minus ∷ decimal (suc n)
 
 -- the most digits of a number that is written
 abbrev pub maxDigits : ℕ

@@ -1,16 +1,22 @@
-// Reading: pieces of a text, numbers, modes, the fields of a line.
+// Reading: pieces of a text, numbers, signed numbers, modes, the fields of a line.
 ghost use mathlib.Core.Path.{_≡_};
 ghost use Prim.Native.Nat.{_-_, _≤_, _<_, min};
 ghost use lib.ListN.{length, getD};
 ghost use Rattle.action.specs.Lists.{sameNumbers, every};
 ghost use Rattle.text.specs.Text.{minus, zeroDigit, before, isDigit, isNumber, numberOf};
-ghost use Rattle.text.specs.Parts.{cap, modeRead, fieldFrom, fieldsRead};
+ghost use Rattle.text.specs.Parts.{cap, signedRead, modeIn, modeRead, fieldFrom, fieldsRead};
 
 // The largest value that is told apart.
 pub const CAP: u64 = 4294967296;
 
 // Modes lie below it, and no lower than minus it.
-pub const MODE_BOUND: u64 = 2147483648;
+pub const MODE_BOUND: i64 = 2147483648;
+
+// A text read as a signed number, no further from 0 than the cap.
+pub enum Signed {
+    Value(i64),
+    Other,
+}
 
 // A text read as a mode.
 pub enum Mode {
@@ -124,44 +130,60 @@ pub fn value(text: &[u8]) -> u64
     v
 }
 
-// A mode: a signed number of 32 bits.
-pub fn read_mode(text: &[u8]) -> Mode
-    ensures { λ r. ⌜ r ≡ modeRead (now (text .entry)) ⌝ }
+// A signed number, however long the text is.
+pub fn read_signed(text: &[u8]) -> Signed
+    ensures { λ r. ⌜ r ≡ signedRead (now (text .entry)) ⌝ }
 {
     if text.len() == 0 {
-        return Mode::Other;
+        return Signed::Other;
     }
     if text[0] == b'-' {
         return negative(text);
     }
-    if !is_number(text) {
+    if is_number(text) {
+        Signed::Value(value(text) as i64)
+    } else {
+        Signed::Other
+    }
+}
+
+// A signed number with a minus before it.
+pub fn negative(text: &[u8]) -> Signed
+    requires { ⌜ (0 < length (now text)) × (getD (now text) 0 0 ≡ minus) ⌝ }
+    ensures { λ r. ⌜ r ≡ signedRead (now (text .entry)) ⌝ }
+{
+    let digits = &text[1..];
+    if !is_number(digits) {
+        return Signed::Other;
+    }
+    let v = value(digits);
+    if v == 0 {
+        return Signed::Other;
+    }
+    Signed::Value(0 - (v as i64))
+}
+
+// A number as a mode, if it is one.
+pub fn mode_in(number: i64) -> Mode
+    ensures { λ r. ⌜ r ≡ modeIn number ⌝ }
+{
+    if number < -MODE_BOUND {
         return Mode::Other;
     }
-    let v = value(text);
-    if v < MODE_BOUND {
-        Mode::Value(v as i32)
+    if number < MODE_BOUND {
+        Mode::Value(number as i32)
     } else {
         Mode::Other
     }
 }
 
-// A mode with a minus before it.
-pub fn negative(text: &[u8]) -> Mode
-    requires { ⌜ (0 < length (now text)) × (getD (now text) 0 0 ≡ minus) ⌝ }
+// A mode: a signed number of 32 bits.
+pub fn read_mode(text: &[u8]) -> Mode
     ensures { λ r. ⌜ r ≡ modeRead (now (text .entry)) ⌝ }
 {
-    let digits = &text[1..];
-    if !is_number(digits) {
-        return Mode::Other;
-    }
-    let v = value(digits);
-    if v == 0 {
-        return Mode::Other;
-    }
-    if v <= MODE_BOUND {
-        Mode::Value((0 - (v as i64)) as i32)
-    } else {
-        Mode::Other
+    match read_signed(text) {
+        Signed::Value(z) => mode_in(z),
+        Signed::Other => Mode::Other,
     }
 }
 

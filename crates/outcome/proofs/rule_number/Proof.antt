@@ -107,6 +107,12 @@ enum-told-33 c = search needs
 enum-told-34 : tie.Need-enum-told-34
 enum-told-34 c = search needs
 
+enum-told-35 : tie.Need-enum-told-35
+enum-told-35 c = search needs
+
+enum-told-36 : tie.Need-enum-told-36
+enum-told-36 c = search needs
+
 returns : tie.Need-returns
 returns c = sym (ap ruleNumber (c .enum-told .given .1))
 
@@ -209,6 +215,12 @@ returns-33 c = sym (ap ruleNumber (c .enum-told33 .given .1))
 returns-34 : tie.Need-returns-34
 returns-34 c = sym (ap ruleNumber (c .enum-told34 .given .1))
 
+returns-35 : tie.Need-returns-35
+returns-35 c = sym (ap ruleNumber (c .enum-told35 .given .1))
+
+returns-36 : tie.Need-returns-36
+returns-36 c = sym (ap ruleNumber (c .enum-told36 .given .1))
+
 pub rule-number-spec : {M : Type 1} → statement M
 rule-number-spec =
     tie.close
@@ -247,6 +259,8 @@ rule-number-spec =
     enum-told-32
     enum-told-33
     enum-told-34
+    enum-told-35
+    enum-told-36
     returns
     returns-2
     returns-3
@@ -280,4 +294,6 @@ rule-number-spec =
     returns-31
     returns-32
     returns-33
-    returns-34)
+    returns-34
+    returns-35
+    returns-36)

@@ -1,16 +1,18 @@
 -- `gomurin_project_pauli_sum` meets its contract: it tells what `project::project_pauli_sum` comes to.
 use Rattle.c_api.proofs.Telling.{else-told, number-told, values-told}
 use Rattle.c_api.specs.Told.{droppedIn, groupIn, keptIn}
-use Rattle.group.specs.declared.Group.{Group}
-use Rattle.outcome.specs.Outcome.{Outcome, onAnswer}
-use Rattle.phase_table.specs.Table.{phaseTable}
-use Rattle.project.specs.Calls.{ProjectedSum, cosinesAfter, countsOf, projectOutcome, sinesAfter, wordsAfter}
+use Rattle.outcome.specs.Outcome.{Outcome}
+use Rattle.phases.specs.Rules.{tableOf}
+use Rattle.project.specs.Calls.{ProjectedSum, countsOf, projectOutcome}
 use denote.Ref.{now}
 use lib.ListN.{length}
-use mathlib.Core.Path.{_∙_, ap}
+use mathlib.Core.Path.{_∙_}
 use borrow.Author.Needs.{needs}
 use Rattle.c_api.proofs.projections.gomurin_project_pauli_sum.Statement.{statement}
 use Rattle.c_api.proofs.projections.gomurin_project_pauli_sum.Tie as tie
+
+table-in-requires : tie.Need-table-in-requires
+table-in-requires c κs = search needs
 
 group-in-requires : tie.Need-group-in-requires
 group-in-requires c κs = search needs
@@ -32,24 +34,25 @@ same-length-3 c = search needs
 
 returns : tie.Need-returns
 returns c =
-    let a = c .before .before .before .before .before .before .before .before .before .before .before .before .before .before .before .args in
+    let a = c .before .before .before .before .before .before .before .before .before .before .before .before .before .before .before .before .args in
+    let same-table = c .before .before .before .before .before .before .before .before .before .before .before .before .before .table-in .ensures in
     let same = c .before .before .before .before .before .before .before .before .before .before .before .before .group-in .ensures in
-    let called = c .before .before .before .before .before .before .before .before .project-pauli-sum .ensures in
-    let outcome : Group → Outcome ProjectedSum = λ g. projectOutcome phaseTable g (now (a .modes)) (now (a .words)) (now (a .coefficients)) (length (now (a .representatives))) (length (now (a .cosines))) (length (now (a .sines))) in
-    let o = outcome (groupIn (a .sites) (a .generators) (now (a .orders)) (now (a .targets))) in
-    let e = called .0 ∙ ap (λ (g : Group). onAnswer countsOf (outcome g)) same in (
-      c .projection .ensures .0 ∙ number-told countsOf o e,
+    let called = rw (same-table, same) at (c .before .before .before .before .before .before .before .before .project-pauli-sum .ensures) in
+    let t = tableOf (now (a .table-cosines)) (now (a .table-sines)) in
+    let g = groupIn (a .sites) (a .generators) (now (a .orders)) (now (a .targets)) in
+    let o : Outcome ProjectedSum = projectOutcome t g (now (a .modes)) (now (a .words)) (now (a .coefficients)) (length (now (a .representatives))) (length (now (a .cosines))) (length (now (a .sines))) in (
+      c .projection .ensures .0 ∙ number-told countsOf o (called .0),
       (
-        called .1 .0 ∙ ap (λ (g : Group). wordsAfter (now (a .representatives)) (length (now (a .coefficients))) (outcome g)) same,
+        called .1 .0,
         (
-          called .1 .1 .0 ∙ ap (λ (g : Group). cosinesAfter (now (a .cosines)) (length (now (a .coefficients))) (outcome g)) same,
+          called .1 .1 .0,
           (
-            called .1 .1 .1 ∙ ap (λ (g : Group). sinesAfter (now (a .sines)) (length (now (a .coefficients))) (outcome g)) same,
+            called .1 .1 .1,
             (
-              c .projection .ensures .1 .0 ∙ else-told countsOf o e keptIn 0,
+              c .projection .ensures .1 .0 ∙ else-told countsOf o (called .0) keptIn 0,
               (
-                c .projection .ensures .1 .1 .0 ∙ else-told countsOf o e droppedIn 0,
-                c .projection .ensures .1 .1 .1 ∙ values-told countsOf o e,
+                c .projection .ensures .1 .1 .0 ∙ else-told countsOf o (called .0) droppedIn 0,
+                c .projection .ensures .1 .1 .1 ∙ values-told countsOf o (called .0),
               ),
             ),
           ),
@@ -61,6 +64,7 @@ pub gomurin-project-pauli-sum-spec : {M : Type 1} → statement M
 gomurin-project-pauli-sum-spec =
     tie.close
     (tie.spec
+    table-in-requires
     group-in-requires
     project-pauli-sum-requires
     projection-requires

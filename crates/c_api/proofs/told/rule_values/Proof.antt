@@ -114,6 +114,12 @@ enum-told-21 c = search needs
 enum-known-why-13 : tie.Need-enum-known-why-13
 enum-known-why-13 c = search needs
 
+enum-told-22 : tie.Need-enum-told-22
+enum-told-22 c = search needs
+
+enum-told-23 : tie.Need-enum-told-23
+enum-told-23 c = search needs
+
 returns : tie.Need-returns
 returns c = sym (ap values (c .enum-told .given .1))
 
@@ -216,6 +222,12 @@ returns-33 c = sym (ap values (c .enum-told21 .given .1))
 returns-34 : tie.Need-returns-34
 returns-34 c = sym (ap values (c .before .why13 .given .1))
 
+returns-35 : tie.Need-returns-35
+returns-35 c = sym (ap values (c .enum-told22 .given .1))
+
+returns-36 : tie.Need-returns-36
+returns-36 c = sym (ap values (c .enum-told23 .given .1))
+
 pub rule-values-spec : {M : Type 1} → statement M
 rule-values-spec =
     tie.close
@@ -254,6 +266,8 @@ rule-values-spec =
     enum-told-20
     enum-told-21
     enum-known-why-13
+    enum-told-22
+    enum-told-23
     returns
     returns-2
     returns-3
@@ -287,4 +301,6 @@ rule-values-spec =
     returns-31
     returns-32
     returns-33
-    returns-34)
+    returns-34
+    returns-35
+    returns-36)

@@ -7,10 +7,10 @@ use Rattle.case_text.proofs.texts.expand.Statement.{statement}
 use Rattle.case_text.proofs.texts.expand.Tie as tie
 
 abbrev Inv-loop : tie.InvT-loop
-Inv-loop text list₀ place₀ at₀ list place at = (at ≤ length text) × (length list ≡ length list₀)
+Inv-loop text list₀ start place₀ at₀ list place at = (at ≤ length text) × (length list ≡ length list₀)
 
 abbrev μ-loop : tie.MeasureT-loop
-μ-loop text list₀ place₀ at₀ list place at = length text - at
+μ-loop text list₀ start place₀ at₀ list place at = length text - at
 
 loop-holds : tie.Need-loop-holds Inv-loop μ-loop
 loop-holds c = search needs

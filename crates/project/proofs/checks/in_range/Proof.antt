@@ -2,8 +2,8 @@
 use Prim.Native.Nat.{_-_}
 use mir.Syntax.{w64}
 use borrow.Author.Needs.{needs}
+use Rattle.phases.proofs.Ranges.{range-below, range-above}
 use Rattle.project.specs.Calls.{maxCoefficient}
-use Rattle.project.proofs.Ranges.{range-below, range-above}
 use Rattle.project.proofs.checks.in_range.Statement.{statement}
 use Rattle.project.proofs.checks.in_range.Tie as tie
 

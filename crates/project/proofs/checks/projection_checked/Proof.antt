@@ -1,14 +1,11 @@
--- `checks::projection_checked` meets its contract: the value's checks refuse, or the modes' do, or those of the lists decide.
+-- `checks::projection_checked` meets its contract: the value's checks refuse, or those of the modes and the table do, or those of the lists decide.
 use mathlib.Core.Path.{_≡_, sym, ap, _∙_}
-use mathlib.Core.List.{[], _∷_}
 use denote.Ref.{now}
 use borrow.Author.Needs.{needs}
 use Rattle.outcome.specs.Outcome.{answer, verdict, outcomeOfVerdict}
 use Rattle.group.specs.Calls.{valueChecks}
 use Rattle.group.proofs.Accepted.{value-accepted}
-use Rattle.momentum.specs.Calls.{modeCount}
-use Rattle.project.specs.Calls.{otherModulus}
-use Rattle.project.proofs.ProjectChecks.{value-few, value-refused, modes-refused, lists-decide}
+use Rattle.project.proofs.ProjectChecks.{sectorChecks, value-few, value-refused, sector-refused, lists-decide}
 use Rattle.project.proofs.checks.projection_checked.Statement.{statement}
 use Rattle.project.proofs.checks.projection_checked.Tie as tie
 
@@ -16,12 +13,12 @@ use Rattle.project.proofs.checks.projection_checked.Tie as tie
 value-passes : (c : tie.After-enum-told) → verdict (valueChecks (c .before .before .before .before .args .group)) ≡ answer tt
 value-passes c = sym (c .before .before .value-checked .ensures) ∙ ap outcomeOfVerdict (c .enum-told .given .1)
 
--- and those of the modes
-modes-pass :
+-- and those of the modes and the table
+sector-passes :
     (c : tie.After-enum-told2)
     → let a = c .before .before .before .before .before .before .before .args in
-    verdict (modeCount (a .group) (now (a .modes)) ∷ otherModulus (a .group) ∷ []) ≡ answer tt
-modes-pass c = sym (c .before .before .modes-checked .ensures) ∙ ap outcomeOfVerdict (c .enum-told2 .given .1)
+    verdict (sectorChecks (a .table) (a .group) (now (a .modes))) ≡ answer tt
+sector-passes c = sym (c .before .before .sector-checked .ensures) ∙ ap outcomeOfVerdict (c .enum-told2 .given .1)
 
 value-checked-requires : tie.Need-value-checked-requires
 value-checked-requires c κs = search needs
@@ -32,8 +29,8 @@ enum-known-why c = search needs
 enum-told : tie.Need-enum-told
 enum-told c = search needs
 
-modes-checked-requires : tie.Need-modes-checked-requires
-modes-checked-requires c κs = value-accepted (c .before .before .before .before .args .group) (search needs) (search needs) (value-passes c)
+sector-checked-requires : tie.Need-sector-checked-requires
+sector-checked-requires c κs = value-accepted (c .before .before .before .before .args .group) (search needs) (search needs) (value-passes c)
 
 enum-known-why-2 : tie.Need-enum-known-why-2
 enum-known-why-2 c = search needs
@@ -50,15 +47,15 @@ returns : tie.Need-returns
 returns c =
     let a = c .before .before .before .before .before .args in
     let e = sym (c .before .before .before .value-checked .ensures) ∙ ap outcomeOfVerdict (c .before .why .given .1) in
-    sym (value-refused (a .group) (now (a .modes)) (now (a .words)) (now (a .coefficients)) (a .leasts) (a .first) (a .second) (c .before .why .given .0 .0) e)
+    sym (value-refused (a .table) (a .group) (now (a .modes)) (now (a .words)) (now (a .coefficients)) (a .leasts) (a .first) (a .second) (c .before .why .given .0 .0) e)
 
 returns-2 : tie.Need-returns-2
 returns-2 c =
     let t = c .before .before .before .before in
     let a = t .before .before .before .before .args in
-    let e = sym (c .before .before .before .modes-checked .ensures) ∙ ap outcomeOfVerdict (c .before .why2 .given .1) in
+    let e = sym (c .before .before .before .sector-checked .ensures) ∙ ap outcomeOfVerdict (c .before .why2 .given .1) in
     sym
-    (modes-refused (a .group) (now (a .modes)) (now (a .words)) (now (a .coefficients)) (a .leasts) (a .first) (a .second) (value-passes t)
+    (sector-refused (a .table) (a .group) (now (a .modes)) (now (a .words)) (now (a .coefficients)) (a .leasts) (a .first) (a .second) (value-passes t)
     (c .before .why2 .given .0 .0) e)
 
 returns-3 : tie.Need-returns-3
@@ -68,7 +65,7 @@ returns-3 c =
     let a = t .before .before .before .before .args in
     c .lists-checked .ensures
     ∙ sym
-    (lists-decide (a .group) (now (a .modes)) (now (a .words)) (now (a .coefficients)) (a .leasts) (a .first) (a .second) (value-passes t) (modes-pass m))
+    (lists-decide (a .table) (a .group) (now (a .modes)) (now (a .words)) (now (a .coefficients)) (a .leasts) (a .first) (a .second) (value-passes t) (sector-passes m))
 
 pub projection-checked-spec : {M : Type 1} → statement M
 projection-checked-spec =
@@ -77,7 +74,7 @@ projection-checked-spec =
     value-checked-requires
     enum-known-why
     enum-told
-    modes-checked-requires
+    sector-checked-requires
     enum-known-why-2
     enum-told-2
     lists-checked-requires

@@ -11,7 +11,7 @@ use Rattle.outcome.specs.Outcome.{answer, verdict, outcomeOfVerdict}
 use Rattle.row_lists.specs.Rows.{rowAt}
 use Rattle.row_lists.specs.Checks.{bitAboveSites}
 use Rattle.row_lists.proofs.ListChecks.{own-refused, own-decides}
-use Rattle.phase_table.specs.Rules.{inRange}
+use Rattle.phases.specs.Rules.{inRange}
 use Rattle.project.specs.Calls.{maxCoefficient, outOfRange}
 use Rattle.project.proofs.ProjectChecks.{range-kept, range-broken}
 use Rattle.project.proofs.checks.row_checked.Statement.{statement}

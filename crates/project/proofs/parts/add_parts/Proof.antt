@@ -11,9 +11,9 @@ use mir.Val.{hbits}
 use Rattle.keyed.specs.Keyed.{placed, placeValues}
 use Rattle.keyed.proofs.Places.{values-start, values-length, value-at}
 use Rattle.row_lists.specs.Rows.{maxRows}
-use Rattle.phase_table.specs.Rules.{InRange}
+use Rattle.phases.specs.Rules.{InRange}
+use Rattle.phases.proofs.Ranges.{sum-held, sum-stays}
 use Rattle.project.specs.Rows.{maxPart, wholeSums}
-use Rattle.project.proofs.Ranges.{sum-held, sum-stays}
 use Rattle.project.proofs.AddedParts.{place-range, parts-next}
 use Rattle.project.proofs.parts.add_parts.Statement.{statement}
 use Rattle.project.proofs.parts.add_parts.Tie as tie

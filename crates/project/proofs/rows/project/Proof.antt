@@ -13,7 +13,7 @@ use Rattle.group.specs.Value.{generatorsOf}
 use Rattle.keyed.specs.Keyed.{tableOf}
 use Rattle.row_lists.specs.Rows.{maxRows, rowsIn}
 use Rattle.row_words.specs.Words.{wordsFilled, filled}
-use Rattle.phase_table.specs.Rules.{InRange}
+use Rattle.phases.specs.Rules.{InRange}
 use Rattle.projection.specs.Projection.{Parts, noParts, keptRows, projected}
 use Rattle.project.specs.Calls.{inputRows}
 use Rattle.project.specs.Rows.{maxPart, wholeRows, turnedRows}

@@ -13,10 +13,10 @@ use Rattle.pauli_word.specs.Bytes.{lettersIn}
 use Rattle.action.specs.Orbit.{indexBack}
 use Rattle.action.specs.Sector.{modulus, keeps}
 use Rattle.group.specs.Value.{generatorsOf}
-use Rattle.phase_table.specs.Rules.{turn, unit}
+use Rattle.phases.specs.Rules.{turn, unit}
+use Rattle.phases.proofs.Ranges.{product-held, product-stays}
 use Rattle.project.specs.Calls.{maxCoefficient}
 use Rattle.project.proofs.ProjectChecks.{modulus-above}
-use Rattle.project.proofs.Ranges.{product-held, product-stays}
 use Rattle.project.proofs.Turning as Turning
 use Rattle.project.proofs.Turning.{kept-keeps, dropped-drops, kept-index, kept-word, entry-inside, turned-cosine, turned-sine}
 use Rattle.project.proofs.rows.turn_row.Statement.{statement}

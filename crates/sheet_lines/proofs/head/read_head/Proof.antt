@@ -12,15 +12,15 @@ use mir.Val.{Fits}
 use Rattle.outcome.specs.declared.Refusal.the-variants as Refusal
 use Rattle.outcome.specs.declared.Verdict.{Verdict}
 use Rattle.outcome.specs.declared.Verdict.the-variants as Verdict
-use Rattle.outcome.specs.Outcome.{verdict, answer, outcomeOfVerdict, outcomeOfNumber, given}
+use Rattle.outcome.specs.Outcome.{verdict, answer, outcomeOfVerdict, given}
 use Rattle.pauli_word.proofs.Words.{rest-part}
 use Rattle.action.specs.Lists.{sameNumbers}
 use Rattle.text.specs.Text.{lineEnd, pieces}
+use Rattle.text.proofs.Lines.{front-part, Ended, ended, names-ends}
 use Rattle.sheet_lines.specs.Lines.{shapeNames, wordNames, modesOf, lineShape, lineSites, shapeChecks, thirdChecks, secondChecks, lineChecks}
 use Rattle.sheet_lines.specs.Parts.{lineGroup, atLine}
 use Rattle.sheet_lines.specs.declared.line.Shape.{Shape}
-use Rattle.sheet_lines.proofs.Lines.{front-part}
-use Rattle.sheet_lines.proofs.Heads.{Ended, ended, names-ends, first-other, first-passes, second-missing, second-refused, second-passes, third-other, head-refused, head-ready, body-within}
+use Rattle.sheet_lines.proofs.Heads.{first-other, first-passes, second-missing, second-refused, second-passes, third-other, head-refused, head-ready, body-within}
 use borrow.Author.Needs.{needs}
 use Rattle.sheet_lines.proofs.head.read_head.Statement.{statement}
 use Rattle.sheet_lines.proofs.head.read_head.Tie as tie
@@ -33,7 +33,7 @@ abbrev end-a : tie.After-a → ℕ
 end-a c = c .a .given .0 .0
 
 first : (c : tie.After-a) → Ended (input-a c) (end-a c) × (sameNumbers (take (end-a c) (input-a c)) shapeNames ≡ true)
-first c = names-ends shapeNames (input-a c) (end-a c) (sym (c .before .before .names-end .ensures) ∙ ap outcomeOfNumber (c .a .given .1))
+first c = names-ends shapeNames (input-a c) (end-a c) (sym (c .before .before .names-end .ensures) ∙ c .a .given .1)
 
 abbrev text-a : tie.After-a → List ℕ
 text-a c = take (length (input-a c) - (end-a c + 1)) (drop (end-a c + 1) (input-a c))
@@ -101,7 +101,7 @@ abbrev text-c : tie.After-c → List ℕ
 text-c c = text-b (shape-c c .before .before .before .before)
 
 third : (c : tie.After-c) → Ended (text-c c) (end-c c) × (sameNumbers (take (end-c c) (text-c c)) wordNames ≡ true)
-third c = names-ends wordNames (text-c c) (end-c c) (sym (c .before .before .names-end2 .ensures) ∙ ap outcomeOfNumber (c .c .given .1))
+third c = names-ends wordNames (text-c c) (end-c c) (sym (c .before .before .names-end2 .ensures) ∙ c .c .given .1)
 
 -- the three lines are within the sheet
 within : (c : tie.After-c) → let y = shape-c c .before .before .before .before in let x = y .before .before .before .before in
@@ -134,7 +134,7 @@ returns : tie.Need-returns
 returns c =
     let input = now (c .before .before .before .before .before .before .args .input) in
     head-refused input (c .no-head .result) Refusal.LineForm 1 (c .no-head .ensures) (omega arith)
-    (first-other input (c .before .enum-told .given .0 .0) (sym (c .before .before .before .names-end .ensures) ∙ ap outcomeOfNumber (c .before .enum-told .given .1)))
+    (first-other input (sym (c .before .before .before .names-end .ensures) ∙ c .before .enum-told .given .1))
 
 add-text : tie.Need-add-text
 add-text c = let x = c .before in omega (arith, first x .0, x .before .before .before .before .before .good)
@@ -227,9 +227,9 @@ returns-4 c =
     let z = c .before .before .before .before .before .before in
     let y = z .before .before .before .before in
     let told = c .before .enum-told3 .given in
-    let e = sym (c .before .before .before .names-end2 .ensures) ∙ ap outcomeOfNumber (told .1) in
+    let e = sym (c .before .before .before .names-end2 .ensures) ∙ told .1 in
     head-refused (input-a (y .before .before .before .before)) (c .no-head4 .result) Refusal.LineForm 3 (c .no-head4 .ensures) (omega arith)
-    (third-other (modesOf (lineShape (line-b y))) (lineSites (line-b y)) (text-b y) (told .0 .0) e ∙ sym (checks-b z))
+    (third-other (modesOf (lineShape (line-b y))) (lineSites (line-b y)) (text-b y) e ∙ sym (checks-b z))
 
 modes-of-requires : tie.Need-modes-of-requires
 modes-of-requires c κs = search needs

@@ -5,8 +5,9 @@ use mathlib.Core.List.{List}
 use native.Mathlib.Omega.{arith}
 use denote.Ref.{now}
 use Rattle.text.proofs.Pieces.{FourParts}
+use Rattle.text.proofs.Lines.{front-part}
 use Rattle.sheet_lines.specs.Lines.{shapeOf}
-use Rattle.sheet_lines.proofs.Lines.{front-part, refused-accepted, fields-four, fields-other, shape-other, shape-fields}
+use Rattle.sheet_lines.proofs.Lines.{refused-accepted, fields-four, fields-other, shape-other, shape-fields}
 use borrow.Author.Needs.{needs}
 use Rattle.sheet_lines.proofs.line.read_shape.Statement.{statement}
 use Rattle.sheet_lines.proofs.line.read_shape.Tie as tie

@@ -7,8 +7,9 @@ use borrow.Author.Tests.{not-true, not-false}
 use denote.Ref.{now}
 use Rattle.outcome.specs.Outcome.{verdict, given}
 use Rattle.text.proofs.Pieces.{FourParts}
+use Rattle.text.proofs.Lines.{front-part}
 use Rattle.sheet_lines.specs.Lines.{letterChecks}
-use Rattle.sheet_lines.proofs.Lines.{front-part, fields-four, fields-other, value-other, value-unfit, value-fits}
+use Rattle.sheet_lines.proofs.Lines.{fields-four, fields-other, value-other, value-unfit, value-fits}
 use borrow.Author.Needs.{needs}
 use Rattle.sheet_lines.proofs.line.value_fault.Statement.{statement}
 use Rattle.sheet_lines.proofs.line.value_fault.Tie as tie

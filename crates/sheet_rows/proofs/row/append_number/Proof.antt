@@ -3,7 +3,7 @@ use mathlib.Core.Path.{refl}
 use native.Mathlib.Omega.{arith}
 use borrow.Author.Needs.{needs}
 use Rattle.text.proofs.Decimals.{written-short}
-use Rattle.sheet_rows.proofs.Rows.{writes-length, writes-then, text-writes, writes-as}
+use Rattle.text.proofs.Writing.{writes-length, writes-then, text-writes, writes-as}
 use Rattle.sheet_rows.proofs.row.append_number.Statement.{statement}
 use Rattle.sheet_rows.proofs.row.append_number.Tie as tie
 

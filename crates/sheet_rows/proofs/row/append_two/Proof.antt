@@ -9,7 +9,8 @@ use lib.ListN.{length}
 use Rattle.text.proofs.Decimals.{written-short}
 use Rattle.text.specs.Text.{space, decimal}
 use Rattle.sheet_rows.specs.Rows.{numberRoom}
-use Rattle.sheet_rows.proofs.Rows.{Writes, writes-room, writes-then, number-writes, writes-as}
+use Rattle.text.proofs.Writing.{Writes, writes-room, writes-then, writes-as}
+use Rattle.sheet_rows.proofs.Rows.{number-writes}
 use Rattle.sheet_rows.proofs.row.append_two.Statement.{statement}
 use Rattle.sheet_rows.proofs.row.append_two.Tie as tie
 

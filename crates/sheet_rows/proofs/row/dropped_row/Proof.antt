@@ -8,7 +8,8 @@ use lib.ListN.{length}
 use Rattle.text.proofs.Decimals.{written-short}
 use Rattle.text.specs.Text.{space, decimal}
 use Rattle.sheet_rows.specs.Rows.{missing, numberRoom}
-use Rattle.sheet_rows.proofs.Rows.{Writes, writes-room, writes-then, text-writes, number-writes, writes-as, dropped-pieces}
+use Rattle.text.proofs.Writing.{Writes, writes-room, writes-then, text-writes, writes-as}
+use Rattle.sheet_rows.proofs.Rows.{number-writes, dropped-pieces}
 use Rattle.sheet_rows.proofs.row.dropped_row.Statement.{statement}
 use Rattle.sheet_rows.proofs.row.dropped_row.Tie as tie
 

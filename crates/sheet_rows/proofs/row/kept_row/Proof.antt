@@ -7,7 +7,8 @@ use borrow.Author.Needs.{needs}
 use Rattle.pauli_word.specs.Text.{spell}
 use Rattle.text.specs.Text.{decimal}
 use Rattle.sheet_rows.specs.Rows.{oneText}
-use Rattle.sheet_rows.proofs.Rows.{writes-length, writes-then, text-writes, writes-as, spelled-length, numbers-short, kept-pieces}
+use Rattle.text.proofs.Writing.{writes-length, writes-then, text-writes, writes-as}
+use Rattle.sheet_rows.proofs.Rows.{spelled-length, numbers-short, kept-pieces}
 use Rattle.sheet_rows.proofs.row.kept_row.Statement.{statement}
 use Rattle.sheet_rows.proofs.row.kept_row.Tie as tie
 use Rattle.pauli_word.specs.Bytes.{lettersIn}

@@ -10,7 +10,8 @@ use Rattle.outcome.specs.Outcome.{ruleNumber}
 use Rattle.outcome.proofs.Outcomes.{number-small}
 use Rattle.text.specs.Text.{space, decimal}
 use Rattle.sheet_rows.specs.Rows.{refusedName, numberRoom}
-use Rattle.sheet_rows.proofs.Rows.{Writes, writes-room, writes-then, text-writes, writes-as, two-short, refusal-pieces}
+use Rattle.text.proofs.Writing.{Writes, writes-room, writes-then, text-writes, writes-as}
+use Rattle.sheet_rows.proofs.Rows.{two-short, refusal-pieces}
 use Rattle.sheet_rows.proofs.row.refusal_line.Statement.{statement}
 use Rattle.sheet_rows.proofs.row.refusal_line.Tie as tie
 

@@ -22,7 +22,8 @@ use Rattle.momentum.specs.Parts.{placementOf, indexIn}
 use Rattle.text.specs.Text.{decimal, maxWritten}
 use Rattle.sheet_rows.specs.Rows.{missing, oneText, rest, numbersRoom}
 use Rattle.sheet_lines.specs.Lines.{zeroText}
-use Rattle.sheet_rows.proofs.Rows.{Writes, writes-length, writes-then, text-writes, writes-as, dropped-short, kept-short, spelled-length, not-refused, weighed, weight-few, read-accepted, read-word, row-dropped, dropped-small, row-kept, kept-word, kept-small}
+use Rattle.text.proofs.Writing.{Writes, writes-length, writes-then, text-writes, writes-as}
+use Rattle.sheet_rows.proofs.Rows.{dropped-short, kept-short, spelled-length, not-refused, weighed, weight-few, read-accepted, read-word, row-dropped, dropped-small, row-kept, kept-word, kept-small}
 use Rattle.sheet_rows.proofs.row.word_row.Statement.{statement}
 use Rattle.sheet_rows.proofs.row.word_row.Tie as tie
 

@@ -1,4 +1,4 @@
--- `read::negative` meets its contract: the bytes after the minus are what is read (`rest-part`), and a value below the cap is their number.
+-- `read::negative` meets its contract: the bytes after the minus are what is read (`rest-part`), and their value is made negative (`negated`).
 use Prim.Native.Nat.{min}
 use mathlib.Core.Path.{sym, ap, _∙_}
 use native.Mathlib.Omega.{arith}
@@ -8,8 +8,8 @@ use denote.Ref.{now}
 use Rattle.pauli_word.proofs.Words.{rest-part}
 use Rattle.text.specs.Text.{isNumber, numberOf}
 use Rattle.text.specs.Parts.{cap}
-use Rattle.text.specs.declared.read.Mode.the-variants as Mode
-use Rattle.text.proofs.Numbers.{minus-no-number, minus-zero, minus-large, minus-value, less-fits, narrow-fits, negated}
+use Rattle.text.specs.declared.read.Signed.the-variants as Signed
+use Rattle.text.proofs.Numbers.{minus-no-number, minus-zero, minus-value, less-fits, negated}
 use Rattle.text.proofs.read.negative.Statement.{statement}
 use Rattle.text.proofs.read.negative.Tie as tie
 
@@ -41,31 +41,21 @@ returns-2 c =
     let v = c .before .value in
     sym (minus-zero t (s .pre .0) (s .pre .1) (v .result) (v .ensures ∙ ap (λ b. min (numberOf b) cap) (rest-part 1 t)) (c .if2 .taken))
 
-cast-t10 : tie.Need-cast-t10
-cast-t10 c = search needs
+cast-t9 : tie.Need-cast-t9
+cast-t9 c = search needs
 
-sub-t11 : tie.Need-sub-t11
-sub-t11 c = less-fits (c .before .before .value .result) (omega arith) (omega arith)
-
-cast-t12 : tie.Need-cast-t12
-cast-t12 c = narrow-fits (c .before .before .value .result) (omega arith) (omega arith)
+sub-t10 : tie.Need-sub-t10
+sub-t10 c = less-fits (c .before .value .result) (omega arith) (omega (arith, c .before .value .ensures))
 
 returns-3 : tie.Need-returns-3
 returns-3 c =
-    let s = c .before .before .before .before .before .before .before in
+    let s = c .before .before .before .before .before .before in
     let t = now (s .args .text) in
-    let v = c .before .before .value in
+    let v = c .before .value in
     let e = v .ensures ∙ ap (λ b. min (numberOf b) cap) (rest-part 1 t) in
-    let told = sym (c .before .before .before .before .is-number .ensures) ∙ not-false _ (c .before .before .before .if1 .left) in
-    ap Mode.Value (negated (v .result) (omega arith) (omega arith))
-    ∙ minus-value t (s .pre .0) (s .pre .1) (v .result) e (ap isNumber (sym (rest-part 1 t)) ∙ told) (omega arith) (omega arith)
-
-returns-4 : tie.Need-returns-4
-returns-4 c =
-    let s = c .before .before .before .before .before .before .before in
-    let t = now (s .args .text) in
-    let v = c .before .before .value in
-    sym (minus-large t (s .pre .0) (s .pre .1) (v .result) (v .ensures ∙ ap (λ b. min (numberOf b) cap) (rest-part 1 t)) (omega arith))
+    let told = sym (c .before .before .before .is-number .ensures) ∙ not-false _ (c .before .before .if1 .left) in
+    ap Signed.Value (negated (v .result) (omega arith) (omega arith))
+    ∙ minus-value t (s .pre .0) (s .pre .1) (v .result) e (ap isNumber (sym (rest-part 1 t)) ∙ told) (omega arith)
 
 pub negative-spec : {M : Type 1} → statement M
 negative-spec =
@@ -78,8 +68,6 @@ negative-spec =
     returns
     value-requires
     returns-2
-    cast-t10
-    sub-t11
-    cast-t12
-    returns-3
-    returns-4)
+    cast-t9
+    sub-t10
+    returns-3)

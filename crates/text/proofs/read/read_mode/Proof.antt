@@ -1,63 +1,37 @@
--- `read::read_mode` meets its contract: a value below the cap is the number (`plain-value`), and one with a minus is the callee's.
-use mathlib.Core.Path.{sym, _∙_}
-use native.Mathlib.Omega.{arith}
+-- `read::read_mode` meets its contract: the number that is read is a mode or none (`value-mode`), and what is no number is no mode (`other-mode`).
+use mathlib.Core.Path.{sym, ap, _∙_}
 use borrow.Author.Needs.{needs}
-use borrow.Author.Tests.{not-true, not-false}
 use denote.Ref.{now}
-use Rattle.text.proofs.Numbers.{mode-none, plain-no-number, plain-large, plain-value}
+use mir.Syntax.{w64}
+use mir.ValLaws.{toZ-ofZ}
+use Rattle.text.specs.Parts.{modeIn}
+use Rattle.text.proofs.Numbers.{value-mode, other-mode}
 use Rattle.text.proofs.read.read_mode.Statement.{statement}
 use Rattle.text.proofs.read.read_mode.Tie as tie
 
+read-signed-requires : tie.Need-read-signed-requires
+read-signed-requires c κs = search needs
+
+enum-known-z : tie.Need-enum-known-z
+enum-known-z c = search needs
+
+mode-in-requires : tie.Need-mode-in-requires
+mode-in-requires c κs = search needs
+
+enum-told : tie.Need-enum-told
+enum-told c = search needs
+
 returns : tie.Need-returns
-returns c = sym (mode-none (now (c .before .before .args .text)) (c .if1 .taken))
-
-shared-slice-read-if2 : tie.Need-shared-slice-read-if2
-shared-slice-read-if2 c = search needs
-
-negative-requires : tie.Need-negative-requires
-negative-requires c κs = search needs
+returns c =
+    let k = c .before .before .z .given in
+    let t = now (c .before .before .before .before .before .before .args .text) in
+    c .mode-in .ensures
+    ∙ ap modeIn (toZ-ofZ w64 (k .0 .0) (record { sfits = c .before .known-told .given .0 .1 }))
+    ∙ value-mode t (k .0 .0) (sym (c .before .before .before .before .read-signed .ensures) ∙ k .1)
 
 returns-2 : tie.Need-returns-2
-returns-2 c = search needs
-
-is-number-requires : tie.Need-is-number-requires
-is-number-requires c κs = search needs
-
-returns-3 : tie.Need-returns-3
-returns-3 c =
-    let t = now (c .before .before .before .before .before .before .args .text) in
-    sym (plain-no-number t (omega arith) (c .before .before .if2 .left) (sym (c .before .is-number .ensures) ∙ not-true _ (c .if3 .taken)))
-
-value-requires : tie.Need-value-requires
-value-requires c κs = search needs
-
-cast-t9 : tie.Need-cast-t9
-cast-t9 c = search needs
-
-returns-4 : tie.Need-returns-4
-returns-4 c =
-    let t = now (c .before .before .before .before .before .before .before .before .args .text) in
-    let v = c .before .value in
-    let number = sym (c .before .before .before .is-number .ensures) ∙ not-false _ (c .before .before .if3 .left) in
-    plain-value t (omega arith) (c .before .before .before .before .if2 .left) (v .result) (v .ensures) number (c .if4 .taken)
-
-returns-5 : tie.Need-returns-5
-returns-5 c =
-    let t = now (c .before .before .before .before .before .before .before .before .args .text) in
-    let other = c .before .before .before .before .if2 .left in
-    sym (plain-large t (omega arith) other (c .before .value .result) (c .before .value .ensures) (c .if4 .left))
+returns-2 c = other-mode (now (c .before .before .before .before .args .text)) (sym (c .before .before .read-signed .ensures) ∙ c .enum-told .given .1)
 
 pub read-mode-spec : {M : Type 1} → statement M
 read-mode-spec =
-    tie.close
-    (tie.spec
-    returns
-    shared-slice-read-if2
-    negative-requires
-    returns-2
-    is-number-requires
-    returns-3
-    value-requires
-    cast-t9
-    returns-4
-    returns-5)
+    tie.close (tie.spec read-signed-requires enum-known-z mode-in-requires enum-told returns returns-2)

@@ -1,4 +1,0 @@
--- Laws of phase tables.
-pub mod Tests
-pub mod Constant
-pub mod Examples

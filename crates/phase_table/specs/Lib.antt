@@ -1,4 +1,0 @@
--- What the contracts of this crate say.
-pub mod Table
-pub mod Rules
-pub mod Nearest
