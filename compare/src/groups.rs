@@ -344,6 +344,41 @@ fn long_cycles(random: &mut Random) -> Generators {
     Generators { sites: permutation.len(), permutations, orders }
 }
 
+/// One or two permutations by their cycle lengths, with their exact orders or others.
+pub fn cycle_case(random: &mut Random, _: Bounds) -> Case {
+    let lengths = cycle_lengths(random);
+    let sites = lengths.iter().sum();
+    let permutation = relabelled(&cycles(&lengths), &labels(random, sites));
+    let exponent = 1 + random.bits() % 4;
+    let permutations = if random.once_in(4) { vec![permutation.clone(), power(&permutation, exponent)] } else { vec![permutation] };
+    let declared = |permutation: &Permutation| {
+        let exact = exact_order(permutation);
+        let divisor = lengths.get(random.below(lengths.len().max(1))).map_or(1, |&length| length as u64);
+        random.pick(&[exact, exact, exact / divisor, exact * 2, 1, 0]) as u32
+    };
+    let orders = permutations.iter().map(declared).collect();
+    vec![Generators { sites, permutations, orders }.line(), Line::Order, Line::Modulus]
+}
+
+/// Cycle lengths, mostly equal ones, all of them different, or any, in any order.
+fn cycle_lengths(random: &mut Random) -> Vec<usize> {
+    let mut lengths = match random.below(3) {
+        0 => vec![random.within(1..=16)],
+        1 => (1..=random.within(1..=22)).collect(),
+        _ => Vec::new(),
+    };
+    let repeats = if lengths.len() == 1 { random.within(1..=MAX_SITES / lengths[0]) } else { 1 };
+    lengths = lengths.repeat(repeats);
+    for _ in 0..random.below(4) {
+        let left = MAX_SITES - lengths.iter().sum::<usize>();
+        if left > 0 {
+            lengths.push(1 + random.size(left - 1));
+        }
+    }
+    random.shuffle(&mut lengths);
+    lengths
+}
+
 /// Spoils a generator list in one way, where that is possible.
 fn spoil(random: &mut Random, generators: &mut Generators) {
     let Generators { sites, permutations, orders } = generators;

@@ -51,6 +51,7 @@ fn parts(seed: u64, count: usize) -> Vec<Part> {
         random("words", 1_000, |_| Bounds::ALL, words::case),
         random("groups", 1_500, |_| Bounds::ALL, groups::case),
         random("lists", 2_000, |_| Bounds::ALL, groups::faulty_case),
+        random("cycles", 500, |_| Bounds::ALL, groups::cycle_case),
         random("orbits", 2_500, Bounds::common, orbits::case),
         random("sectors", 2_000, Bounds::common, sectors::case),
         random("sums", 500, Bounds::common, sums::case),

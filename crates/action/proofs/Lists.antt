@@ -21,12 +21,12 @@ bool-ext false false f g = refl
 
 -- the numbers below n
 
-member-from : (n a b : ℕ) → a ≤ b → b < a + n → Member b (from a n)
+pub member-from : (n a b : ℕ) → a ≤ b → b < a + n → Member b (from a n)
 unfolding from
 member-from zero a b l h = omega arith
 member-from (suc n) a b l h = ⊎-elim (λ e. inl (sym e)) (λ k. inr (member-from n (suc a) b k (omega arith))) (eq-or-lt-of-le l)
 
-of-member-from : (n a b : ℕ) → Member b (from a n) → (a ≤ b) × (b < a + n)
+pub of-member-from : (n a b : ℕ) → Member b (from a n) → (a ≤ b) × (b < a + n)
 unfolding from
 of-member-from zero a b h = absurd h
 of-member-from (suc n) a b (inl e) = omega arith
@@ -225,6 +225,11 @@ module _ {A : Type 0} where
   unfolding total
   total-const c [] = omega arith
   total-const c (a ∷ xs) = omega (arith, total-const c xs)
+
+  pub total-le : (f g : A → ℕ) (xs : List A) → ((a : A) → Member a xs → f a ≤ g a) → total f xs ≤ total g xs
+  unfolding total
+  total-le f g [] h = omega arith
+  total-le f g (a ∷ xs) h = omega (arith, h a (inl refl), total-le f g xs (λ b m. h b (inr m)))
 
   pub total-within : (f : A → ℕ) (c : ℕ) (xs : List A) → ((a : A) → Member a xs → f a ≤ c) → total f xs ≤ length xs * c
   unfolding total

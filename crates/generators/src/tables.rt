@@ -30,7 +30,7 @@ pub fn orders_fault(targets: &[u32], orders: &[u32], generators: usize, sites: u
         }
         let start = MAX_SITES * g;
         let end = start + sites;
-        let Number::Value(exact) = permutation::inner::exact_order(g, &targets[start..end]) else {
+        let Number::Value(exact) = permutation::orders::exact_order(g, &targets[start..end]) else {
             return Verdict::Refused(Refusal::PermutationOrderOverflow(g));
         };
         if declared != exact {

@@ -1,26 +1,19 @@
--- Cycles of a permutation, walked site by site, and the exact order from the lengths of the cycles walked.
+-- Cycles of a permutation, walked site by site, and the sites that a walk marks.
 -- What carries the walk: the sites of a cycle have the same cycle length, and no site is met twice before the first comes back.
-use Prim.Native.Nat.{ℕ, zero, suc, _+_, _≤_, _<_, _∣_}
-use mathlib.Core.Path.{_≡_, refl, sym, ap, _∙_}
-use mathlib.Core.Logic.{_⊎_, inr, ⊎-elim}
-use mathlib.Core.List.{List, map}
-use native.Mathlib.Nat.{add-comm, eq-or-lt-of-le, dvd-antisymm, dvd-trans, le-of-dvd, le-trans, one-dvd, not-suc-le-zero}
+use Prim.Native.Nat.{ℕ, zero, suc, _+_, _-_, _≤_, _<_, _∣_}
+use mathlib.Core.Path.{_≡_, sym, ap, _∙_}
+use mathlib.Core.Logic.{_⊎_, inl, inr, ⊎-elim}
+use mathlib.Core.List.{List}
+use native.Mathlib.Nat.{add-comm, eq-or-lt-of-le, dvd-antisymm, le-trans, not-suc-le-zero}
+use native.Mathlib.Numerals.{add-one}
 use native.Mathlib.Decide.{ℕ-discrete}
 use native.Mathlib.Omega.{arith}
-use lib.ListN.{length, getD, set, replicate}
-use lib.Seq.{getD-set-other}
+use lib.ListN.{length, getD, set}
+use lib.Seq.{getD-set-same, getD-set-other}
 use borrow.Author.Count.{below-more}
-use borrow.Author.Tests.{lt-ltb, le-ltb}
-use Rattle.action.specs.Arithmetic.{lcm}
-use Rattle.action.specs.Lists.{below, Member}
-use Rattle.action.specs.Permutation.{target, after, cycleLength, exactOrder, Permutes}
-use Rattle.action.proofs.Lists.{of-member-below, of-member-map}
-use Rattle.action.proofs.Arithmetic.{lcm-left, lcm-right, lcm-divides, lcm-positive, lcmAll-divides}
-use Rattle.action.proofs.ExactOrders.{after-add, after-inside, after-apart, comes-back, cycle-least, cycle-positive, cycle-returns, cycle-divides, cycle-order, order-positive}
-use Rattle.outcome.specs.declared.Refusal.the-variants as Refusal
-use Rattle.outcome.specs.Outcome.{answer, refusalOf}
-use Rattle.permutation.specs.Limits.{maxDeclared}
-use Rattle.permutation.specs.Parts.{exactOutcome}
+use Rattle.action.specs.Permutation.{target, after, cycleLength, Permutes}
+use Rattle.action.proofs.ExactOrders.{after-add, after-inside, after-apart, comes-back, cycle-least, cycle-returns, cycle-divides}
+use Rattle.permutation.specs.Lengths.{Marked}
 
 -- ---- the walk
 
@@ -54,6 +47,17 @@ module _ {n : ℕ} {perm : List ℕ} (permutes : Permutes n perm) (q : ℕ) (h :
           (after-apart permutes c (after perm (cycleLength perm p) q) q (after-inside permutes (cycleLength perm p) q h) h
           (after-swap perm c (cycleLength perm p) q ∙ cycle-returns permutes p inside))
 
+  -- a site of the cycle is where one of them moves to
+  pub cycle-before : (d : ℕ) → d < cycleLength perm q → (c : ℕ) × (c < cycleLength perm q) × (after perm d q ≡ target perm (after perm c q))
+  unfolding after
+  cycle-before zero l =
+      let size : cycleLength perm q ≡ cycleLength perm q - 1 + 1 = omega arith in (
+        cycleLength perm q - 1,
+        omega arith,
+        sym (cycle-returns permutes q h) ∙ ap (λ (k : ℕ). after perm k q) size ∙ after-next perm (cycleLength perm q - 1) q,
+      )
+  cycle-before (suc d) l = (d, omega arith, ap (λ (k : ℕ). after perm k q) (sym (add-one d)) ∙ after-next perm d q)
+
   -- before the first site comes back, the cycle is longer than the steps that were made
   pub walk-next : (c : ℕ) → c ≤ cycleLength perm q → (after perm c q ≡ q → ⊥) → c < cycleLength perm q
   walk-next c l d =
@@ -64,86 +68,41 @@ module _ {n : ℕ} {perm : List ℕ} (permutes : Permutes n perm) (q : ℕ) (h :
 
 -- ---- the marks
 
--- what is marked by 1 was marked before, or is a site whose cycle is as long as that of start
-abbrev pub Marked : List ℕ → ℕ → List ℕ → List ℕ → Type 0
-Marked perm start before seen =
-    (p : ℕ) → getD seen p 0 ≡ 1 → (getD before p 0 ≡ 1) ⊎ ((p < length perm) × (cycleLength perm p ≡ cycleLength perm start))
+pub marked-none : (perm : List ℕ) (start : ℕ) (before : List ℕ) → Marked perm start 0 before before
+marked-none perm start before = record { kept = λ p k. k; walked = λ d l. absurd (not-suc-le-zero l); only = λ p k. inl k }
 
+-- one more site of the walk is marked
 pub marked-next :
-    (perm : List ℕ) (start : ℕ) (before seen : List ℕ) → Marked perm start before seen
-    → (q : ℕ) → q < length perm → cycleLength perm q ≡ cycleLength perm start → Marked perm start before (set seen q 1)
-marked-next perm start before seen m q h e p k = go (ℕ-discrete p q)
-  where
-    go : Dec (p ≡ q) → (getD before p 0 ≡ 1) ⊎ ((p < length perm) × (cycleLength perm p ≡ cycleLength perm start))
-    go (yes s) = inr (rw s h, ap (cycleLength perm) s ∙ e)
-    go (no d) = m p (sym (getD-set-other seen q p 1 0 d) ∙ k)
-
--- ---- the exact order
-
--- what holds of the least common multiple of the cycles walked before site q
-pub record Walked (perm seen : List ℕ) (order q : ℕ) : Type 0 where
-  pub positive : 0 < order
-  pub divides : order ∣ exactOrder perm
-  pub passed : (p : ℕ) → p < q → cycleLength perm p ∣ order
-  pub marked : (p : ℕ) → getD seen p 0 ≡ 1 → cycleLength perm p ∣ order
-
-getD-zeros : (k p : ℕ) → _≡_ {A = ℕ} (getD (replicate k 0) p 0) 0
-getD-zeros zero p = refl
-getD-zeros (suc k) zero = refl
-getD-zeros (suc k) (suc p) = getD-zeros k p
-
-pub walked-none : (perm : List ℕ) (k : ℕ) → Walked perm (replicate k 0) 1 0
-walked-none perm k =
+    {perm : List ℕ} {start c : ℕ} {before seen : List ℕ} → Marked perm start c before seen
+    → (q : ℕ) → q ≡ after perm c start → q < length seen → Marked perm start (c + 1) before (set seen q 1)
+marked-next {perm} {start} {c} {before} {seen} m q e h =
     record {
-      positive = omega arith;
-      divides = one-dvd (exactOrder perm);
-      passed = λ p h. absurd (not-suc-le-zero h);
-      marked = λ p e. absurd (omega (arith, getD-zeros k p));
+      kept = λ p k. stays p (ℕ-discrete p q) (m .kept p k);
+      walked = below-more (λ d. getD (set seen q 1) (after perm d start) 0 ≡ 1) c (λ d l. stays (after perm d start) (ℕ-discrete (after perm d start) q) (m .walked d l)) (rw (← e) own);
+      only = λ p k. told p (ℕ-discrete p q) k;
     }
+  where
+    own : getD (set seen q 1) q 0 ≡ 1
+    own = getD-set-same seen q 1 0 h
 
-module _ {perm seen : List ℕ} {order q : ℕ} (w : Walked perm seen order q) where
-  -- a marked site: its cycle is walked already
-  pub walked-past : getD seen q 0 ≡ 1 → Walked perm seen order (q + 1)
-  walked-past e =
-      record {
-        positive = w .positive;
-        divides = w .divides;
-        passed = below-more (λ p. cycleLength perm p ∣ order) q (w .passed) (w .marked q e);
-        marked = w .marked;
-      }
+    stays : (p : ℕ) → Dec (p ≡ q) → getD seen p 0 ≡ 1 → getD (set seen q 1) p 0 ≡ 1
+    stays p (yes s) k = rw s own
+    stays p (no d) k = getD-set-other seen q p 1 0 d ∙ k
 
-  -- a cycle is walked, and its length goes into the least common multiple
-  pub walked-next :
-      Permutes (length perm) perm → q < length perm → (marks : List ℕ) → Marked perm q seen marks
-      → Walked perm marks (lcm order (cycleLength perm q)) (q + 1)
-  walked-next permutes h marks m =
-      record {
-        positive = lcm-positive (w .positive) (cycle-positive perm q);
-        divides = lcm-divides order (cycleLength perm q) (exactOrder perm) (w .divides) (cycle-order permutes q h);
-        passed = below-more (λ p. cycleLength perm p ∣ all) q (λ p l. up p (w .passed p l)) (lcm-right order (cycleLength perm q));
-        marked = λ p e. ⊎-elim (λ k. up p (w .marked p k)) (λ k. rw (k .1) (lcm-right order (cycleLength perm q))) (m p e);
-      }
-    where
-      all : ℕ
-      all = lcm order (cycleLength perm q)
+    told : (p : ℕ) → Dec (p ≡ q) → getD (set seen q 1) p 0 ≡ 1 → (getD before p 0 ≡ 1) ⊎ ((d : ℕ) × (d < c + 1) × (p ≡ after perm d start))
+    told p (yes s) k = inr (c, omega arith, s ∙ e)
+    told p (no d) k = ⊎-elim inl (λ w. inr (w .0, omega (arith, w .1), w .2)) (m .only p (sym (getD-set-other seen q p 1 0 d) ∙ k))
 
-      up : (p : ℕ) → cycleLength perm p ∣ order → cycleLength perm p ∣ all
-      up p d = dvd-trans (cycleLength perm p) d (lcm-left order (cycleLength perm q))
+pub marked-again : {perm : List ℕ} {start c : ℕ} {before seen : List ℕ} → Marked perm start c before seen → Marked perm start c seen seen
+marked-again m = record { kept = λ p k. k; walked = m .walked; only = λ p k. inl k }
 
-  pub walked-overflow : (i : ℕ) → maxDeclared < order → exactOutcome i perm ≡ refusalOf (Refusal.PermutationOrderOverflow i)
-  unfolding exactOutcome
-  walked-overflow i over = simp (lt-ltb maxDeclared (exactOrder perm) (le-trans over (le-of-dvd (order-positive perm) (w .divides))))
-
-  -- every site is passed: each cycle length divides the number, and it divides the exact order
-  whole : length perm ≤ q → exactOrder perm ≡ order
-  unfolding exactOrder
-  whole h = dvd-antisymm (lcmAll-divides (map (cycleLength perm) (below (length perm))) order each) (w .divides)
-    where
-      each : (a : ℕ) → Member a (map (cycleLength perm) (below (length perm))) → a ∣ order
-      each a m =
-          let (p, k, e) = of-member-map (cycleLength perm) (below (length perm)) a m in
-          rw e (w .passed p (omega (arith, of-member-below (length perm) p k)))
-
-  pub walked-all : (i : ℕ) → length perm ≤ q → order ≤ maxDeclared → exactOutcome i perm ≡ answer order
-  unfolding exactOutcome
-  walked-all i h fits = rw (whole h, le-ltb maxDeclared order fits)
+-- the first site was marked before the others
+pub marked-on :
+    {perm : List ℕ} {start c : ℕ} {before first seen : List ℕ} → Marked perm start 1 before first → Marked perm start c first seen → 0 < c
+    → Marked perm start c before seen
+marked-on {c = c} f m h =
+    record {
+      kept = λ p k. m .kept p (f .kept p k);
+      walked = m .walked;
+      only = λ p k. ⊎-elim (λ g. ⊎-elim inl (λ w. inr (w .0, omega (arith, w .1), w .2)) (f .only p g)) inr (m .only p k);
+    }

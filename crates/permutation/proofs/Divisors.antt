@@ -17,6 +17,9 @@ gcd-step a b =
     (gcd-greatest b (a % b) (gcd a b) (gcd-right a b) (dvd-mod-iff (gcd a b) (gcd-right a b) .1 (gcd-left a b)))
     (gcd-greatest a b (gcd b (a % b)) (dvd-mod-iff (gcd b (a % b)) (gcd-left b (a % b)) .0 (gcd-right b (a % b))) (gcd-left b (a % b)))
 
+pub gcd-comm : (a b : ℕ) → gcd a b ≡ gcd b a
+gcd-comm a b = dvd-antisymm (gcd-greatest b a (gcd a b) (gcd-right a b) (gcd-left a b)) (gcd-greatest a b (gcd b a) (gcd-right b a) (gcd-left b a))
+
 pub gcd-positive : (a b : ℕ) → 0 < a → 0 < gcd a b
 gcd-positive a b h = pos-of-dvd-of-pos (gcd-left a b) h
 

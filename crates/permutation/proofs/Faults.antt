@@ -52,8 +52,8 @@ marks-next n seen passed t h m u l = go (ℕ-discrete u t)
     go (yes e) = rw (e, eq-eqb t t refl) (getD-set-same seen t 1 0 h)
     go (no d) = rw (ne-eqb u t d) (getD-set-other seen t u 1 0 d ∙ m u l)
 
--- a mark tells whether a target passed
-mark-told : (x : ℕ) (b : Bool) → x ≡ cond b 1 0 → (x ≡ 1 → b ≡ true) × ((x ≡ 1 → ⊥) → b ≡ false)
+-- a mark tells what it stands for
+pub mark-told : (x : ℕ) (b : Bool) → x ≡ cond b 1 0 → (x ≡ 1 → b ≡ true) × ((x ≡ 1 → ⊥) → b ≡ false)
 mark-told x true m = (λ e. refl, λ d. absurd (d m))
 mark-told x false m = (λ e. absurd (omega arith), λ d. refl)
 

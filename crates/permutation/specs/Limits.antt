@@ -18,6 +18,10 @@ maxDeclared = 4294967295
 abbrev pub maxWide : ℕ
 maxWide = 18446744073709551615
 
+-- the most different cycle lengths: k of them take k (k + 1) / 2 sites
+abbrev pub maxLengths : ℕ
+maxLengths = 22
+
 -- the places for targets in a group value
 abbrev pub targetPlaces : ℕ
 targetPlaces = maxGenerators * maxSites

@@ -1,18 +1,15 @@
-// Permutations of sites: the faults of a list of targets, exact orders, pairs that do not commute, the product of orders. Whoever calls a
-// function here owes its `requires`.
+// Permutations of sites: the faults of a list of targets, pairs that do not commute, divisors and multiples, the product of orders. Whoever calls
+// a function here owes its `requires`.
 ghost use mathlib.Core.Path.{_≡_};
-ghost use mathlib.Core.Logic.{_⊎_};
 ghost use mathlib.Core.List.{[]};
 ghost use Prim.Native.Nat.{ℕ, _+_, _*_, _≤_, _<_};
 ghost use lib.ListN.{length, getD, take};
 ghost use Rattle.action.specs.Arithmetic.{gcd as gcdOf, lcm as lcmOf};
-ghost use Rattle.action.specs.Permutation.{Permutes, cycleLength};
 ghost use Rattle.outcome.specs.Outcome.{outcomeOfVerdict, outcomeOfNumber, alone};
 ghost use Rattle.pauli_word.specs.Limits.{maxSites};
 ghost use Rattle.permutation.specs.Limits.{maxGenerators, targetPlaces};
 ghost use Rattle.permutation.specs.Generators.{targetsCheck, pairsCheck, rowsOf};
-ghost use Rattle.permutation.specs.Parts.{exactOutcome, productOutcome};
-use crate::MAX_DECLARED;
+ghost use Rattle.permutation.specs.Parts.{productOutcome};
 use crate::MAX_WIDE;
 use outcome::Number;
 use outcome::Refusal;
@@ -54,53 +51,12 @@ pub fn gcd(a: u64, b: u64) -> u64
     x
 }
 
-// The least common multiple of two numbers of which the first fits 32 bits and the second 16.
+// The least common multiple of two numbers of which the first fits 32 bits and the second 16. Where the first is 1, gcd takes one step.
 pub fn lcm(a: u64, b: u64) -> u64
     requires { ⌜ (0 < a) × (a < 4294967296) × (0 < b) × (b < 65536) ⌝ }
     ensures { λ r. ⌜ r ≡ lcmOf a b ⌝ }
 {
-    a / gcd(a, b) * b
-}
-
-// The length of the cycle through start, whose sites are marked in seen: a site that is marked afterwards was marked before, or is on a cycle of
-// that length.
-pub fn mark_cycle(perm: &[u32], start: usize, seen: &mut [u8]) -> usize
-    requires { ⌜ Permutes (length (now perm)) (now perm) ⌝ }
-    requires { ⌜ start < length (now perm) ⌝ }
-    requires { ⌜ length (now perm) ≤ length (now seen) ⌝ }
-    ensures length { λ r. ⌜ r ≡ cycleLength (now (perm .entry)) start ⌝ }
-    ensures marked { λ r. ⌜ ((p : ℕ) → getD (now (seen .exit)) p 0 ≡ 1 → (getD (now (seen .entry)) p 0 ≡ 1) ⊎ ((p < length (now (perm .entry))) × (cycleLength (now (perm .entry)) p ≡ cycleLength (now (perm .entry)) start))) ⌝ }
-{
-    seen[start] = 1;
-    let mut q = perm[start] as usize;
-    let mut steps = 1;
-    while q != start {
-        seen[q] = 1;
-        q = perm[q] as usize;
-        steps += 1;
-    }
-    steps
-}
-
-// The exact order of a generator's permutation, or 9: each cycle is walked once.
-pub fn exact_order(generator: usize, perm: &[u32]) -> Number
-    requires { ⌜ (Permutes (length (now perm)) (now perm)) × (length (now perm) ≤ maxSites) ⌝ }
-    ensures { λ r. ⌜ outcomeOfNumber r ≡ exactOutcome generator (now (perm .entry)) ⌝ }
-{
-    let mut seen = [0u8; MAX_SITES];
-    let mut order: u64 = 1;
-    let mut q = 0;
-    while q < perm.len() {
-        if seen[q] != 1 {
-            let length = mark_cycle(perm, q, &mut seen);
-            order = lcm(order, length as u64);
-            if MAX_DECLARED < order {
-                return Number::Refused(Refusal::PermutationOrderOverflow(generator));
-            }
-        }
-        q += 1;
-    }
-    Number::Value(order as usize)
+    a / gcd(b, a) * b
 }
 
 // 11: the first two generators, left then right, that differ at some site when they are applied in either order.

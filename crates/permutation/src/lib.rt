@@ -1,6 +1,7 @@
 // What a group is made of: the rules that generators are checked by, as definitions, and the functions that look for a broken one.
 // Nothing here is a buyer's call: the crate group has those.
 pub mod inner;
+pub mod orders;
 
 use pauli_word::MAX_SITES;
 
@@ -12,6 +13,9 @@ pub const MAX_ORDER: usize = 1048576;
 
 // The places for targets: MAX_SITES for each generator.
 pub const TARGET_PLACES: usize = MAX_GENERATORS * MAX_SITES;
+
+// The most different cycle lengths of a permutation of MAX_SITES sites.
+pub const MAX_LENGTHS: usize = 22;
 
 // The largest order of one generator, as it is declared in 32 bits.
 pub const MAX_DECLARED: u64 = 4294967295;

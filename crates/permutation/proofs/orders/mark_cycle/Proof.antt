@@ -1,20 +1,20 @@
--- `inner::mark_cycle` meets its contract. The loop's invariant: q is where the steps made so far take start, and they are no more than the cycle
+-- `orders::mark_cycle` meets its contract. The loop's invariant: q is where the steps made so far take start, and they are no more than the cycle
 -- has, since no fewer steps came back to start.
 use Prim.Native.Nat.{_-_, _≤_, _<_}
 use mathlib.Core.Path.{_≡_, refl, sym, ap, _∙_}
-use mathlib.Core.Logic.{inl, inr, ⊎-elim}
 use native.Mathlib.Omega.{arith}
 use lib.ListN.{length, set, length-set}
 use denote.Ref.{now}
 use Rattle.action.specs.Permutation.{target, after, cycleLength}
 use Rattle.action.proofs.ExactOrders.{cycle-positive}
-use Rattle.permutation.proofs.Cycles.{Marked, after-next, cycle-short, cycle-shared, walk-next, walk-end, marked-next}
-use Rattle.permutation.proofs.inner.mark_cycle.Statement.{statement}
-use Rattle.permutation.proofs.inner.mark_cycle.Tie as tie
+use Rattle.permutation.specs.Lengths.{Marked}
+use Rattle.permutation.proofs.Cycles.{after-next, cycle-short, walk-next, walk-end, marked-none, marked-next, marked-again, marked-on}
+use Rattle.permutation.proofs.orders.mark_cycle.Statement.{statement}
+use Rattle.permutation.proofs.orders.mark_cycle.Tie as tie
 
 abbrev Inv-loop : tie.InvT-loop
 Inv-loop perm start seen₀ q₀ steps₀ seen q steps =
-    (length seen ≡ length seen₀) × (q < length perm) × (0 < steps) × (steps ≤ cycleLength perm start) × (q ≡ after perm steps start) × Marked perm start seen₀ seen
+    (length seen ≡ length seen₀) × (q < length perm) × (0 < steps) × (steps ≤ cycleLength perm start) × (q ≡ after perm steps start) × Marked perm start steps seen₀ seen
 
 abbrev μ-loop : tie.MeasureT-loop
 μ-loop perm start seen₀ q₀ steps₀ seen q steps = cycleLength perm start - steps
@@ -31,12 +31,22 @@ shared-slice-read-q c = omega arith
 cast-q : tie.Need-cast-q Inv-loop μ-loop
 cast-q c = omega (arith, c .shared-slice-known .given (c .before .args .start))
 
+-- the first site is marked
+first :
+    (c : tie.Start Inv-loop μ-loop)
+    → let a = c .args in
+    Marked (now (a .perm)) (a .start) 1 (now (a .seen)) (set (now (a .seen)) (a .start) 1)
+unfolding after
+first c =
+    let a = c .args in
+    marked-next (marked-none (now (a .perm)) (a .start) (now (a .seen))) (a .start) refl (omega (arith, c .pre .1))
+
 loop-holds : tie.Need-loop-holds Inv-loop μ-loop
 unfolding after
 loop-holds c =
     let a = c .before .args in
     let ok = c .before .pre in
-    (refl, ok .0 .inside (a .start) (ok .1 .0), omega arith, cycle-positive (now (a .perm)) (a .start), refl, λ p e. inl e)
+    (refl, ok .0 .inside (a .start) (ok .1 .0), omega arith, cycle-positive (now (a .perm)) (a .start), refl, marked-again (first (c .before)))
 
 slice-write-seen-2 : tie.Need-slice-write-seen-2 Inv-loop μ-loop
 slice-write-seen-2 c =
@@ -79,8 +89,7 @@ loop-again c =
       omega arith,
       omega (arith, longer (c .before)),
       ap (target perm) (l .inv .4) ∙ sym (after-next perm (l .steps) start),
-      marked-next perm start (set (now (s .args .seen)) start 1) (l .seen) (l .inv .5) (l .q) (l .inv .1)
-          (ap (cycleLength perm) (l .inv .4) ∙ cycle-shared (s .pre .0) start (s .pre .1 .0) (l .steps)),
+      marked-next (l .inv .5) (l .q) (l .inv .4) (omega (arith, l .inv .0, l .inv .1, length-set (now (s .args .seen)) start 1, s .pre .1 .1)),
     )
 
 same-length : tie.Need-same-length Inv-loop μ-loop
@@ -90,14 +99,9 @@ returns : tie.Need-returns Inv-loop μ-loop
 returns c =
     let s = c .before .before .before in
     let l = c .before .loop in
-    let perm = now (s .args .perm) in
     let start = s .args .start in
-    let first : Marked perm start (now (s .args .seen)) (set (now (s .args .seen)) start 1) =
-    marked-next perm start (now (s .args .seen)) (now (s .args .seen)) (λ p e. inl e) start (s .pre .1 .0) refl
-    in (
-      walk-end (s .pre .0) start (s .pre .1 .0) (l .steps) (l .inv .2) (l .inv .3) (sym (l .inv .4) ∙ c .loop-test .left),
-      λ p e. ⊎-elim (first p) inr (l .inv .5 p e),
-    )
+    let size = walk-end (s .pre .0) start (s .pre .1 .0) (l .steps) (l .inv .2) (l .inv .3) (sym (l .inv .4) ∙ c .loop-test .left) in
+    (size, marked-on (first s) (l .inv .5) (l .inv .2))
 
 pub mark-cycle-spec : {M : Type 1} → statement M
 mark-cycle-spec =
