@@ -1,16 +1,19 @@
--- Lists whose members are all 0, and lists looked through for another member from the front.
--- What carries it: the members from i on are member i and those from i + 1 on.
+-- Lists whose members are all 0, and lists whose members are put together from the front, bit by bit.
+-- What carries it: numbers put together by `or` are 0 exactly if each is.
 use Prim.Native.Nat.{ℕ, zero, suc, _+_, _-_, _≤_, _<_}
 use mathlib.Core.Path.{_≡_, refl, sym, ap, ap₂, _∙_}
-use mathlib.Core.Bool.{true, false, and-eq-true-iff}
+use mathlib.Core.Bool.{true, _&&_, and-eq-true-iff, and-assoc, and-true}
 use mathlib.Core.List.{List, [], _∷_}
 use native.Mathlib.Nat.{sub-zero, zero-sub, suc-sub-suc}
 use native.Mathlib.Numerals.{add-one}
+use native.Mathlib.Omega.{arith}
+use lib.Bits.{bitOr, and-le-l, and-le-r, or-add-and}
 use lib.Dec.{eqb}
 use lib.ListN.{length, getD, drop, replicate, drop-of-length-le}
 use lib.Seq.{drop-cons}
-use borrow.Author.Tests.{eq-eqb, ne-eqb, eqb-true}
+use borrow.Author.Tests.{eq-eqb, eqb-true}
 use Rattle.action.specs.Lists.{every}
+use Rattle.action.proofs.Lists.{bool-ext}
 use Rattle.generators.specs.Tables.{zeros}
 
 -- k zeros
@@ -34,18 +37,29 @@ blank-zeros (x ∷ xs) e =
     let (first, rest) = and-eq-true-iff (eqb x 0) (zeros xs) .0 e in
     ap₂ (λ (y : ℕ) (ys : List ℕ). y ∷ ys) (eqb-true x 0 first) (blank-zeros xs rest)
 
--- ---- from place i on
+-- ---- numbers put together by `or`, from the front on
 
-module _ (xs : List ℕ) (i : ℕ) where
-  pub zeros-none : length xs ≤ i → zeros (drop i xs) ≡ true
+-- no bit is set in both together exactly if none is set in either
+pub or-none : (a b : ℕ) → eqb (bitOr a b) 0 ≡ (eqb a 0 && eqb b 0)
+or-none a b =
+    bool-ext (eqb (bitOr a b) 0) (eqb a 0 && eqb b 0)
+    (λ e.
+    let none = eqb-true (bitOr a b) 0 e in
+    let whole = or-add-and a b in
+    and-eq-true-iff (eqb a 0) (eqb b 0) .1
+    (eq-eqb a 0 (omega (arith, and-le-l a b, and-le-r a b)), eq-eqb b 0 (omega (arith, and-le-l a b, and-le-r a b))))
+    (λ e.
+    let (x, y) = and-eq-true-iff (eqb a 0) (eqb b 0) .0 e in
+    eq-eqb (bitOr a b) 0 (ap₂ bitOr (eqb-true a 0 x) (eqb-true b 0 y)))
+
+module _ (xs : List ℕ) (i : ℕ) (any : ℕ) where
+  -- those up to place i, put together, and those from there on
+  pub zeros-more : i < length xs → (eqb any 0 && zeros (drop i xs)) ≡ (eqb (bitOr any (getD xs i 0)) 0 && zeros (drop (i + 1) xs))
   unfolding every
-  zeros-none h = rw (drop-of-length-le xs h)
+  zeros-more more =
+      rw (drop-cons xs i 0 more, or-none any (getD xs i 0), add-one)
+      (sym (and-assoc (eqb any 0) (eqb (getD xs i 0) 0) (zeros (drop (suc i) xs))))
 
-  module _ (more : i < length xs) where
-    pub zeros-other : (getD xs i 0 ≡ 0 → ⊥) → zeros (drop i xs) ≡ false
-    unfolding every
-    zeros-other d = rw (drop-cons xs i 0 more, ne-eqb (getD xs i 0) 0 d)
-
-    pub zeros-next : getD xs i 0 ≡ 0 → zeros (drop i xs) ≡ zeros (drop (i + 1) xs)
-    unfolding every
-    zeros-next e = rw (drop-cons xs i 0 more, eq-eqb (getD xs i 0) 0 e, add-one)
+  pub zeros-none : length xs ≤ i → (eqb any 0 && zeros (drop i xs)) ≡ eqb any 0
+  unfolding every
+  zeros-none h = rw (drop-of-length-le xs h) (and-true (eqb any 0))

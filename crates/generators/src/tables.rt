@@ -62,18 +62,17 @@ pub fn group_fault(targets: &[u32], orders: &[u32], generators: usize, sites: us
     Verdict::Accepted
 }
 
-// Whether all numbers are 0.
+// Whether all numbers are 0: none has a bit set. No branch for a number, so that several are looked at in one step.
 pub fn all_zero(numbers: &[u32]) -> bool
     ensures { λ r. ⌜ r ≡ zeros (now (numbers .entry)) ⌝ }
 {
+    let mut any = 0u32;
     let mut i = 0;
     while i < numbers.len() {
-        if numbers[i] != 0 {
-            return false;
-        }
+        any = any | numbers[i];
         i += 1;
     }
-    true
+    any == 0
 }
 
 // Whether each generator's targets are a permutation of the sites.
