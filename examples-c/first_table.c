@@ -42,7 +42,8 @@ static void one_row(const char *letters, int32_t mode)
 {
     /* A ring of 4 sites. */
     size_t sites, generators;
-    uint32_t orders[GOMURIN_MAX_GENERATORS], targets[GOMURIN_TARGETS];
+    uint32_t orders[GOMURIN_MAX_GENERATORS];
+    uint16_t targets[GOMURIN_TARGETS];
     accept("chain_1d", gomurin_chain_1d(4, &sites, &generators, orders, targets, values));
 
     /* The word and its weight. */

@@ -27,7 +27,7 @@ use Rattle.action.specs.Index.{orderOf}
 use Rattle.group.specs.declared.Group.{Group}
 use Rattle.group.specs.Value.{generatorsOf, isGroup}
 use Rattle.group.proofs.Accepted.{accepted-by, accepted-tables}
-use Rattle.orbit.specs.Calls.{isWalk, noWord, noWalk, nextOutcome, entry, finished}
+use Rattle.orbit.specs.Calls.{isWalk, noWord, noWalk, nextOutcome, entry, finished, walkIn}
 use Rattle.momentum.specs.Calls.{kept, dropped}
 use Rattle.text.specs.Text.{lineEnd, pieces}
 use Rattle.phases.specs.Table.{phaseTable}
@@ -37,7 +37,7 @@ use Rattle.phase_file.specs.File.{maxFile, isFile, tableIn, fileOutcome, tableA
 use Rattle.phase_file.proofs.Promises.{after-passes}
 use Rattle.project.specs.Calls.{ProjectedSum, countsOf}
 use Rattle.sheet_text.specs.Sheet.{Page, tablePage, refusalPage}
-use Rattle.c_api.specs.Told.{placed, numberOf, valuesOf, walkIn, signOf, indexOfEntry, isFinished, sizeIn, isKept, dropIndex, keptIn, droppedIn, rowsKept, rowsDropped, pageNumber, pageValues, pageLength}
+use Rattle.c_api.specs.Told.{placed, numberOf, valuesOf, signOf, indexOfEntry, isFinished, sizeIn, isKept, dropIndex, keptIn, droppedIn, rowsKept, rowsDropped, pageNumber, pageValues, pageLength}
 
 -- ---- 1 0 is returned for an answer alone: no rule has the number 0
 
@@ -78,6 +78,7 @@ rule-positive Refusal.PhaseModulus = omega arith
 rule-positive (Refusal.CoefficientRange a) = omega arith
 rule-positive Refusal.PhaseForm = omega arith
 rule-positive Refusal.PhaseRule = omega arith
+rule-positive Refusal.OldWordSites = omega arith
 
 pub zero-number : (n : Number) → numberOf (outcomeOfNumber n) ≡ 0 → answers (outcomeOfNumber n) ≡ true
 zero-number (Number.Value k) e = refl
@@ -126,6 +127,7 @@ values-whole Refusal.PhaseModulus line = refl
 values-whole (Refusal.CoefficientRange a) line = refl
 values-whole Refusal.PhaseForm line = refl
 values-whole Refusal.PhaseRule line = refl
+values-whole Refusal.OldWordSites line = refl
 
 -- ---- 3 A refused beginning of a walk
 

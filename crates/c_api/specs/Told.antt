@@ -7,8 +7,6 @@ use lib.IntN.{ℤ, pos, negsuc}
 use Rattle.outcome.specs.Outcome.{Outcome, refused, answer}
 use Rattle.pauli_word.specs.declared.Ordering.{Ordering}
 use Rattle.pauli_word.specs.declared.Ordering.the-variants.{Less, Same, Greater}
-use Rattle.group.specs.declared.Group.{Group}
-use Rattle.orbit.specs.declared.Walk.{Walk}
 use Rattle.orbit.specs.Calls.{Entry, entry, finished}
 use Rattle.momentum.specs.Calls.{Decision, kept, dropped, Row}
 use Rattle.project.specs.Calls.{ProjectedSum}
@@ -28,10 +26,6 @@ abbrev pub valuesOf : {A : Type 0} → Outcome A → List ℕ
 valuesOf (refused k vs) = placed vs
 valuesOf (answer a) = placed []
 
--- the group of four parts
-abbrev pub groupIn : ℕ → ℕ → List ℕ → List ℕ → Group
-groupIn sites generators orders targets = record { sites = sites; generators = generators; orders = orders; targets = targets }
-
 -- how a word stands to another, as C's comparisons have it
 abbrev pub signOf : Ordering → ℤ
 signOf Less = negsuc 0
@@ -39,10 +33,6 @@ signOf Same = pos 0
 signOf Greater = pos 1
 
 -- ---- walks
-
--- the walk of a group, a word and an index
-abbrev pub walkIn : Group → List ℕ → ℕ → Walk
-walkIn g word index = record { group = g; word = word; index = index }
 
 -- the index of an entry; 0 at the end
 abbrev pub indexOfEntry : Entry → ℕ

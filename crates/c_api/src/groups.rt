@@ -2,9 +2,9 @@
 ghost use mathlib.Core.Path.{_≡_};
 ghost use lib.ListN.{length};
 ghost use Rattle.outcome.specs.Outcome.{orElse, itself};
-ghost use Rattle.group.specs.Value.{noGroup, tryFromOutcome};
+ghost use Rattle.group.specs.Value.{noGroup, tryFromOutcome, groupIn};
 ghost use Rattle.group.specs.Calls.{chainOutcome, ladderOutcome, torus2Outcome, torus3Outcome, orderOutcome, modulusOutcome, counterOutcome, invertOutcome};
-ghost use Rattle.c_api.specs.Told.{numberOf, valuesOf, groupIn};
+ghost use Rattle.c_api.specs.Told.{numberOf, valuesOf};
 use crate::VALUES;
 use crate::told;
 use permutation::MAX_GENERATORS;
@@ -19,7 +19,7 @@ pub extern "C" fn gomurin_try_from_generators(
     sites: &mut usize,
     generators: &mut usize,
     orders: &mut [u32; MAX_GENERATORS],
-    targets: &mut [u32; TARGET_PLACES],
+    targets: &mut [u16; TARGET_PLACES],
     values: &mut [usize; VALUES],
 ) -> usize
     ensures number { λ r. ⌜ r ≡ numberOf (tryFromOutcome n (now (list .entry)) (now (declared .entry))) ⌝ }
@@ -46,7 +46,7 @@ pub extern "C" fn gomurin_chain_1d(
     sites: &mut usize,
     generators: &mut usize,
     orders: &mut [u32; MAX_GENERATORS],
-    targets: &mut [u32; TARGET_PLACES],
+    targets: &mut [u16; TARGET_PLACES],
     values: &mut [usize; VALUES],
 ) -> usize
     ensures number { λ r. ⌜ r ≡ numberOf (chainOutcome n) ⌝ }
@@ -74,7 +74,7 @@ pub extern "C" fn gomurin_ladder(
     sites: &mut usize,
     generators: &mut usize,
     orders: &mut [u32; MAX_GENERATORS],
-    targets: &mut [u32; TARGET_PLACES],
+    targets: &mut [u16; TARGET_PLACES],
     values: &mut [usize; VALUES],
 ) -> usize
     ensures number { λ r. ⌜ r ≡ numberOf (ladderOutcome l legs) ⌝ }
@@ -102,7 +102,7 @@ pub extern "C" fn gomurin_torus_2d(
     sites: &mut usize,
     generators: &mut usize,
     orders: &mut [u32; MAX_GENERATORS],
-    targets: &mut [u32; TARGET_PLACES],
+    targets: &mut [u16; TARGET_PLACES],
     values: &mut [usize; VALUES],
 ) -> usize
     ensures number { λ r. ⌜ r ≡ numberOf (torus2Outcome lx ly) ⌝ }
@@ -131,7 +131,7 @@ pub extern "C" fn gomurin_torus_3d(
     sites: &mut usize,
     generators: &mut usize,
     orders: &mut [u32; MAX_GENERATORS],
-    targets: &mut [u32; TARGET_PLACES],
+    targets: &mut [u16; TARGET_PLACES],
     values: &mut [usize; VALUES],
 ) -> usize
     ensures number { λ r. ⌜ r ≡ numberOf (torus3Outcome lx ly lz) ⌝ }
@@ -153,11 +153,11 @@ pub extern "C" fn gomurin_torus_3d(
 
 // The group order: the product of the orders, so that two equal generators count as two.
 #[no_mangle]
-pub extern "C" fn gomurin_order(
+pub extern "C" fn gomurin_order<'a>(
     sites: usize,
     generators: usize,
-    orders: &[u32; MAX_GENERATORS],
-    targets: &[u32; TARGET_PLACES],
+    orders: &'a [u32; MAX_GENERATORS],
+    targets: &'a [u16; TARGET_PLACES],
     order: &mut usize,
     values: &mut [usize; VALUES],
 ) -> usize
@@ -165,17 +165,20 @@ pub extern "C" fn gomurin_order(
     ensures order { λ _. ⌜ now (order .exit) ≡ orElse itself 0 (orderOutcome (groupIn sites generators (now (orders .entry)) (now (targets .entry)))) ⌝ }
     ensures values { λ _. ⌜ now (values .exit) ≡ valuesOf (orderOutcome (groupIn sites generators (now (orders .entry)) (now (targets .entry)))) ⌝ }
 {
-    let held = told::group_in(sites, generators, orders, targets);
-    told::number(group::order(held), order, values)
+    told::number(
+        group::lent::order(targets, orders, generators, sites),
+        order,
+        values,
+    )
 }
 
 // The phase modulus: the least common multiple of the orders.
 #[no_mangle]
-pub extern "C" fn gomurin_phase_modulus(
+pub extern "C" fn gomurin_phase_modulus<'a>(
     sites: usize,
     generators: usize,
-    orders: &[u32; MAX_GENERATORS],
-    targets: &[u32; TARGET_PLACES],
+    orders: &'a [u32; MAX_GENERATORS],
+    targets: &'a [u16; TARGET_PLACES],
     modulus: &mut usize,
     values: &mut [usize; VALUES],
 ) -> usize
@@ -183,17 +186,20 @@ pub extern "C" fn gomurin_phase_modulus(
     ensures modulus { λ _. ⌜ now (modulus .exit) ≡ orElse itself 0 (modulusOutcome (groupIn sites generators (now (orders .entry)) (now (targets .entry)))) ⌝ }
     ensures values { λ _. ⌜ now (values .exit) ≡ valuesOf (modulusOutcome (groupIn sites generators (now (orders .entry)) (now (targets .entry)))) ⌝ }
 {
-    let held = told::group_in(sites, generators, orders, targets);
-    told::number(group::phase_modulus(held), modulus, values)
+    told::number(
+        group::lent::phase_modulus(targets, orders, generators, sites),
+        modulus,
+        values,
+    )
 }
 
 // The digits of an index, generator 0 first, into a list with a place for each generator.
 #[no_mangle]
-pub extern "C" fn gomurin_counter_from_index(
+pub extern "C" fn gomurin_counter_from_index<'a>(
     sites: usize,
     generators: usize,
-    orders: &[u32; MAX_GENERATORS],
-    targets: &[u32; TARGET_PLACES],
+    orders: &'a [u32; MAX_GENERATORS],
+    targets: &'a [u16; TARGET_PLACES],
     index: usize,
     counter: &mut [u32],
     values: &mut [usize; VALUES],
@@ -202,17 +208,19 @@ pub extern "C" fn gomurin_counter_from_index(
     ensures counter { λ _. ⌜ now (counter .exit) ≡ orElse itself (now (counter .entry)) (counterOutcome (groupIn sites generators (now (orders .entry)) (now (targets .entry))) index (length (now (counter .entry)))) ⌝ }
     ensures values { λ _. ⌜ now (values .exit) ≡ valuesOf (counterOutcome (groupIn sites generators (now (orders .entry)) (now (targets .entry))) index (length (now (counter .entry)))) ⌝ }
 {
-    let held = told::group_in(sites, generators, orders, targets);
-    told::verdict(group::counter_from_index(held, index, counter), values)
+    told::verdict(
+        group::lent::counter_from_index(targets, orders, generators, sites, index, counter),
+        values,
+    )
 }
 
 // The index of the inverse element.
 #[no_mangle]
-pub extern "C" fn gomurin_invert_index(
+pub extern "C" fn gomurin_invert_index<'a>(
     sites: usize,
     generators: usize,
-    orders: &[u32; MAX_GENERATORS],
-    targets: &[u32; TARGET_PLACES],
+    orders: &'a [u32; MAX_GENERATORS],
+    targets: &'a [u16; TARGET_PLACES],
     index: usize,
     inverse: &mut usize,
     values: &mut [usize; VALUES],
@@ -221,6 +229,9 @@ pub extern "C" fn gomurin_invert_index(
     ensures inverse { λ _. ⌜ now (inverse .exit) ≡ orElse itself 0 (invertOutcome (groupIn sites generators (now (orders .entry)) (now (targets .entry))) index) ⌝ }
     ensures values { λ _. ⌜ now (values .exit) ≡ valuesOf (invertOutcome (groupIn sites generators (now (orders .entry)) (now (targets .entry))) index) ⌝ }
 {
-    let held = told::group_in(sites, generators, orders, targets);
-    told::number(group::invert_index(held, index), inverse, values)
+    told::number(
+        group::lent::invert_index(targets, orders, generators, sites, index),
+        inverse,
+        values,
+    )
 }

@@ -5,9 +5,10 @@ ghost use lib.ListN.{length};
 ghost use Rattle.outcome.specs.Outcome.{orElse, itself};
 ghost use Rattle.pauli_word.specs.Bytes.{bytesOf};
 ghost use Rattle.elements.specs.HeldGroup.{encodeAll};
-ghost use Rattle.orbit.specs.Calls.{canonicalizeOutcome, withIndexOutcome, withShiftOutcome, orbitListOutcome, noWord, beginOutcome, noWalk, nextOutcome, entryWord, wordOf, indexOf, shiftOf};
+ghost use Rattle.orbit.specs.Calls.{canonicalizeOutcome, withIndexOutcome, withShiftOutcome, orbitListOutcome, noWord, beginOutcome, noWalk, nextOutcome, entryWord, wordOf, indexOf, shiftOf, walkIn};
 ghost use Rattle.orbit.specs.Walked.{stepOn};
-ghost use Rattle.c_api.specs.Told.{numberOf, valuesOf, groupIn, walkIn, indexOfEntry, isFinished};
+ghost use Rattle.group.specs.Value.{groupIn};
+ghost use Rattle.c_api.specs.Told.{numberOf, valuesOf, indexOfEntry, isFinished};
 use crate::VALUES;
 use crate::told;
 use orbit::Step;
@@ -18,11 +19,11 @@ use permutation::TARGET_PLACES;
 
 // The least word of a word's orbit.
 #[no_mangle]
-pub extern "C" fn gomurin_canonicalize(
+pub extern "C" fn gomurin_canonicalize<'a>(
     sites: usize,
     generators: usize,
-    orders: &[u32; MAX_GENERATORS],
-    targets: &[u32; TARGET_PLACES],
+    orders: &'a [u32; MAX_GENERATORS],
+    targets: &'a [u16; TARGET_PLACES],
     n: usize,
     word: &[u8],
     least: &mut [u8; WORD_BYTES],
@@ -32,8 +33,7 @@ pub extern "C" fn gomurin_canonicalize(
     ensures least { λ _. ⌜ now (least .exit) ≡ orElse bytesOf noWord (canonicalizeOutcome (groupIn sites generators (now (orders .entry)) (now (targets .entry))) n (now (word .entry))) ⌝ }
     ensures values { λ _. ⌜ now (values .exit) ≡ valuesOf (canonicalizeOutcome (groupIn sites generators (now (orders .entry)) (now (targets .entry))) n (now (word .entry))) ⌝ }
 {
-    let held = told::group_in(sites, generators, orders, targets);
-    let found = orbit::canonicalize(held, n, word);
+    let found = orbit::lent::canonicalize(targets, orders, generators, sites, n, word);
     let bytes = found.word;
     *least = bytes;
     let answer = found.answer;
@@ -42,11 +42,11 @@ pub extern "C" fn gomurin_canonicalize(
 
 // The same, and the index that leads from the least word back to the word: the inverse of the smallest one that reaches it.
 #[no_mangle]
-pub extern "C" fn gomurin_canonicalize_with_index(
+pub extern "C" fn gomurin_canonicalize_with_index<'a>(
     sites: usize,
     generators: usize,
-    orders: &[u32; MAX_GENERATORS],
-    targets: &[u32; TARGET_PLACES],
+    orders: &'a [u32; MAX_GENERATORS],
+    targets: &'a [u16; TARGET_PLACES],
     n: usize,
     word: &[u8],
     least: &mut [u8; WORD_BYTES],
@@ -58,8 +58,7 @@ pub extern "C" fn gomurin_canonicalize_with_index(
     ensures index { λ _. ⌜ now (index .exit) ≡ orElse indexOf 0 (withIndexOutcome (groupIn sites generators (now (orders .entry)) (now (targets .entry))) n (now (word .entry))) ⌝ }
     ensures values { λ _. ⌜ now (values .exit) ≡ valuesOf (withIndexOutcome (groupIn sites generators (now (orders .entry)) (now (targets .entry))) n (now (word .entry))) ⌝ }
 {
-    let held = told::group_in(sites, generators, orders, targets);
-    let found = orbit::canonicalize_with_index(held, n, word);
+    let found = orbit::lent::canonicalize_with_index(targets, orders, generators, sites, n, word);
     let bytes = found.word;
     *least = bytes;
     let answer = found.answer;
@@ -68,11 +67,11 @@ pub extern "C" fn gomurin_canonicalize_with_index(
 
 // The same with the counter of that index, into a list with a place for each generator.
 #[no_mangle]
-pub extern "C" fn gomurin_canonicalize_with_shift(
+pub extern "C" fn gomurin_canonicalize_with_shift<'a>(
     sites: usize,
     generators: usize,
-    orders: &[u32; MAX_GENERATORS],
-    targets: &[u32; TARGET_PLACES],
+    orders: &'a [u32; MAX_GENERATORS],
+    targets: &'a [u16; TARGET_PLACES],
     n: usize,
     word: &[u8],
     least: &mut [u8; WORD_BYTES],
@@ -84,8 +83,15 @@ pub extern "C" fn gomurin_canonicalize_with_shift(
     ensures counter { λ _. ⌜ now (counter .exit) ≡ orElse shiftOf (now (counter .entry)) (withShiftOutcome (groupIn sites generators (now (orders .entry)) (now (targets .entry))) n (now (word .entry)) (length (now (counter .entry)))) ⌝ }
     ensures values { λ _. ⌜ now (values .exit) ≡ valuesOf (withShiftOutcome (groupIn sites generators (now (orders .entry)) (now (targets .entry))) n (now (word .entry)) (length (now (counter .entry)))) ⌝ }
 {
-    let held = told::group_in(sites, generators, orders, targets);
-    let found = orbit::canonicalize_with_shift(held, n, word, counter);
+    let found = orbit::lent::canonicalize_with_shift(
+        targets,
+        orders,
+        generators,
+        sites,
+        n,
+        word,
+        counter,
+    );
     let bytes = found.word;
     *least = bytes;
     let answer = found.answer;
@@ -94,11 +100,11 @@ pub extern "C" fn gomurin_canonicalize_with_shift(
 
 // The orbit list: the bytes of one entry for each index, repeats included, into a list of WORD_BYTES times the order.
 #[no_mangle]
-pub extern "C" fn gomurin_orbit_list(
+pub extern "C" fn gomurin_orbit_list<'a>(
     sites: usize,
     generators: usize,
-    orders: &[u32; MAX_GENERATORS],
-    targets: &[u32; TARGET_PLACES],
+    orders: &'a [u32; MAX_GENERATORS],
+    targets: &'a [u16; TARGET_PLACES],
     n: usize,
     word: &[u8],
     list: &mut [u8],
@@ -108,17 +114,19 @@ pub extern "C" fn gomurin_orbit_list(
     ensures list { λ _. ⌜ now (list .exit) ≡ orElse encodeAll (now (list .entry)) (orbitListOutcome (groupIn sites generators (now (orders .entry)) (now (targets .entry))) n (now (word .entry)) (length (now (list .entry)))) ⌝ }
     ensures values { λ _. ⌜ now (values .exit) ≡ valuesOf (orbitListOutcome (groupIn sites generators (now (orders .entry)) (now (targets .entry))) n (now (word .entry)) (length (now (list .entry)))) ⌝ }
 {
-    let held = told::group_in(sites, generators, orders, targets);
-    told::verdict(orbit::orbit_list(held, n, word, list), values)
+    told::verdict(
+        orbit::lent::orbit_list(targets, orders, generators, sites, n, word, list),
+        values,
+    )
 }
 
 // Begins a walk over a word's orbit, from the group and the word: the word and the index of its next step.
 #[no_mangle]
-pub extern "C" fn gomurin_orbit(
+pub extern "C" fn gomurin_orbit<'a>(
     sites: usize,
     generators: usize,
-    orders: &[u32; MAX_GENERATORS],
-    targets: &[u32; TARGET_PLACES],
+    orders: &'a [u32; MAX_GENERATORS],
+    targets: &'a [u16; TARGET_PLACES],
     n: usize,
     word: &[u8],
     at: &mut [u8; WORD_BYTES],
@@ -130,23 +138,21 @@ pub extern "C" fn gomurin_orbit(
     ensures index { λ _. ⌜ now (index .exit) ≡ orElse itself noWalk (beginOutcome (groupIn sites generators (now (orders .entry)) (now (targets .entry))) n (now (word .entry))) .index ⌝ }
     ensures values { λ _. ⌜ now (values .exit) ≡ valuesOf (beginOutcome (groupIn sites generators (now (orders .entry)) (now (targets .entry))) n (now (word .entry))) ⌝ }
 {
-    let held = told::group_in(sites, generators, orders, targets);
-    let begun = orbit::orbit(held, n, word);
-    let walk = begun.walk;
-    let bytes = walk.word;
+    let begun = orbit::lent::orbit(targets, orders, generators, sites, n, word);
+    let bytes = begun.at;
     *at = bytes;
-    *index = walk.index;
+    *index = begun.index;
     let answer = begun.answer;
     told::verdict(answer, values)
 }
 
 // A step of a walk: the entry's word and index, and the walk after it. After the last entry it answers finished and changes nothing of the walk.
 #[no_mangle]
-pub extern "C" fn gomurin_next(
+pub extern "C" fn gomurin_next<'a>(
     sites: usize,
     generators: usize,
-    orders: &[u32; MAX_GENERATORS],
-    targets: &[u32; TARGET_PLACES],
+    orders: &'a [u32; MAX_GENERATORS],
+    targets: &'a [u16; TARGET_PLACES],
     at: &mut [u8; WORD_BYTES],
     index: &mut usize,
     word: &mut [u8; WORD_BYTES],
@@ -162,14 +168,12 @@ pub extern "C" fn gomurin_next(
     ensures finished { λ _. ⌜ now (finished .exit) ≡ orElse isFinished false (nextOutcome (walkIn (groupIn sites generators (now (orders .entry)) (now (targets .entry))) (now (at .entry)) (now (index .entry)))) ⌝ }
     ensures values { λ _. ⌜ now (values .exit) ≡ valuesOf (nextOutcome (walkIn (groupIn sites generators (now (orders .entry)) (now (targets .entry))) (now (at .entry)) (now (index .entry)))) ⌝ }
 {
-    let held = told::group_in(sites, generators, orders, targets);
-    let stepped = told::walk_in(held, at, *index).next();
-    let walk = stepped.walk;
-    let bytes = walk.word;
+    let moved = orbit::lent::next(targets, orders, generators, sites, *at, *index);
+    let bytes = moved.at;
     *at = bytes;
-    *index = walk.index;
-    let given = stepped.word;
+    *index = moved.index;
+    let given = moved.word;
     *word = given;
-    let answer = stepped.answer;
+    let answer = moved.answer;
     told::step(answer, entry, finished, values)
 }

@@ -3,10 +3,10 @@ ghost use mathlib.Core.Path.{_≡_};
 ghost use mathlib.Core.Bool.{false};
 ghost use lib.ListN.{length};
 ghost use Rattle.outcome.specs.Outcome.{orElse, itself};
-ghost use Rattle.group.specs.Value.{generatorsOf};
+ghost use Rattle.group.specs.Value.{generatorsOf, groupIn};
 ghost use Rattle.orbit.specs.Calls.{noWord};
 ghost use Rattle.momentum.specs.Calls.{numeratorOutcome, tableOutcome, sectorOutcome, rowWord, rowCounter};
-ghost use Rattle.c_api.specs.Told.{numberOf, valuesOf, groupIn, rowSize, isKept, dropIndex};
+ghost use Rattle.c_api.specs.Told.{numberOf, valuesOf, rowSize, isKept, dropIndex};
 use crate::VALUES;
 use crate::told;
 use pauli_word::WORD_BYTES;
@@ -16,11 +16,11 @@ use permutation::TARGET_PLACES;
 // The numerator of a counter: the sum of (k c mod o) (M / o) over the generators, mod M, with M the phase modulus. Modes and digits may be any; they are
 // reduced.
 #[no_mangle]
-pub extern "C" fn gomurin_character_numerator(
+pub extern "C" fn gomurin_character_numerator<'a>(
     sites: usize,
     generators: usize,
-    orders: &[u32; MAX_GENERATORS],
-    targets: &[u32; TARGET_PLACES],
+    orders: &'a [u32; MAX_GENERATORS],
+    targets: &'a [u16; TARGET_PLACES],
     modes: &[i32],
     counter: &[u32],
     numerator: &mut usize,
@@ -30,9 +30,8 @@ pub extern "C" fn gomurin_character_numerator(
     ensures numerator { λ _. ⌜ now (numerator .exit) ≡ orElse itself 0 (numeratorOutcome (groupIn sites generators (now (orders .entry)) (now (targets .entry))) (now (modes .entry)) (now (counter .entry))) ⌝ }
     ensures values { λ _. ⌜ now (values .exit) ≡ valuesOf (numeratorOutcome (groupIn sites generators (now (orders .entry)) (now (targets .entry))) (now (modes .entry)) (now (counter .entry))) ⌝ }
 {
-    let held = told::group_in(sites, generators, orders, targets);
     told::number(
-        momentum::character_numerator(held, modes, counter),
+        momentum::lent::character_numerator(targets, orders, generators, sites, modes, counter),
         numerator,
         values,
     )
@@ -40,11 +39,11 @@ pub extern "C" fn gomurin_character_numerator(
 
 // The numerators of all indices, generator 0 fastest, into a list with an entry for each.
 #[no_mangle]
-pub extern "C" fn gomurin_character_table(
+pub extern "C" fn gomurin_character_table<'a>(
     sites: usize,
     generators: usize,
-    orders: &[u32; MAX_GENERATORS],
-    targets: &[u32; TARGET_PLACES],
+    orders: &'a [u32; MAX_GENERATORS],
+    targets: &'a [u16; TARGET_PLACES],
     modes: &[i32],
     list: &mut [usize],
     values: &mut [usize; VALUES],
@@ -53,19 +52,21 @@ pub extern "C" fn gomurin_character_table(
     ensures list { λ _. ⌜ now (list .exit) ≡ orElse itself (now (list .entry)) (tableOutcome (groupIn sites generators (now (orders .entry)) (now (targets .entry))) (now (modes .entry)) (length (now (list .entry)))) ⌝ }
     ensures values { λ _. ⌜ now (values .exit) ≡ valuesOf (tableOutcome (groupIn sites generators (now (orders .entry)) (now (targets .entry))) (now (modes .entry)) (length (now (list .entry)))) ⌝ }
 {
-    let held = told::group_in(sites, generators, orders, targets);
-    told::verdict(momentum::character_table(held, modes, list), values)
+    told::verdict(
+        momentum::lent::character_table(targets, orders, generators, sites, modes, list),
+        values,
+    )
 }
 
 // Whether modes keep a word. A kept word comes with the least word of its orbit, the counter of the index that leads from there back to the word, into a
 // list with a place for each generator, and the orbit size. A dropped one comes with the smallest index that fixes it with a numerator other than 0; its
 // least word and size are zeros, and the counter stays. That index is 0 of a kept word.
 #[no_mangle]
-pub extern "C" fn gomurin_canonicalize_in_sector(
+pub extern "C" fn gomurin_canonicalize_in_sector<'a>(
     sites: usize,
     generators: usize,
-    orders: &[u32; MAX_GENERATORS],
-    targets: &[u32; TARGET_PLACES],
+    orders: &'a [u32; MAX_GENERATORS],
+    targets: &'a [u16; TARGET_PLACES],
     n: usize,
     word: &[u8],
     modes: &[i32],
@@ -84,8 +85,16 @@ pub extern "C" fn gomurin_canonicalize_in_sector(
     ensures index { λ _. ⌜ now («dropped_by» .exit) ≡ orElse dropIndex 0 (sectorOutcome (groupIn sites generators (now (orders .entry)) (now (targets .entry))) n (now (word .entry)) (now (modes .entry)) (length (now (counter .entry)))) ⌝ }
     ensures values { λ _. ⌜ now (values .exit) ≡ valuesOf (sectorOutcome (groupIn sites generators (now (orders .entry)) (now (targets .entry))) n (now (word .entry)) (now (modes .entry)) (length (now (counter .entry)))) ⌝ }
 {
-    let held = told::group_in(sites, generators, orders, targets);
-    let found = momentum::canonicalize_in_sector(held, n, word, modes, counter);
+    let found = momentum::lent::canonicalize_in_sector(
+        targets,
+        orders,
+        generators,
+        sites,
+        n,
+        word,
+        modes,
+        counter,
+    );
     let bytes = found.word;
     *least = bytes;
     let answer = found.answer;

@@ -7,39 +7,19 @@ ghost use Rattle.orbit.specs.Calls.{outcomeOfStep};
 ghost use Rattle.momentum.specs.Calls.{outcomeOfSector};
 ghost use Rattle.phases.specs.Rules.{tableOf};
 ghost use Rattle.project.specs.Calls.{outcomeOfProjection};
-ghost use Rattle.c_api.specs.Told.{placed, numberOf, valuesOf, groupIn, walkIn, indexOfEntry, isFinished, sizeIn, isKept, dropIndex, keptIn, droppedIn};
+ghost use Rattle.c_api.specs.Told.{placed, numberOf, valuesOf, indexOfEntry, isFinished, sizeIn, isKept, dropIndex, keptIn, droppedIn};
 use crate::VALUES;
-use group::Group;
 use group::Made;
 use momentum::Sector;
 use orbit::Step;
-use orbit::Walk;
 use outcome::Number;
 use outcome::Refusal;
 use outcome::Verdict;
-use pauli_word::WORD_BYTES;
 use permutation::MAX_GENERATORS;
 use permutation::TARGET_PLACES;
 use phases::PHASES;
 use phases::PhaseTable;
 use project::Projection;
-
-// The group of four parts.
-pub fn group_in(
-    sites: usize,
-    generators: usize,
-    orders: &[u32; MAX_GENERATORS],
-    targets: &[u32; TARGET_PLACES],
-) -> Group
-    ensures { λ r. ⌜ r ≡ groupIn sites generators (now (orders .entry)) (now (targets .entry)) ⌝ }
-{
-    Group {
-        sites,
-        generators,
-        orders: *orders,
-        targets: *targets,
-    }
-}
 
 // The phase table of two lists.
 pub fn table_in(cosines: &[i64; PHASES], sines: &[i64; PHASES]) -> PhaseTable
@@ -103,6 +83,7 @@ fn rule_values(why: Refusal) -> [usize; VALUES]
         Refusal::CoefficientRange(a) => [a, 0, 0, 0],
         Refusal::PhaseForm => [0, 0, 0, 0],
         Refusal::PhaseRule => [0, 0, 0, 0],
+        Refusal::OldWordSites => [0, 0, 0, 0],
     }
 }
 
@@ -169,7 +150,7 @@ pub fn made(
     sites: &mut usize,
     generators: &mut usize,
     orders: &mut [u32; MAX_GENERATORS],
-    targets: &mut [u32; TARGET_PLACES],
+    targets: &mut [u16; TARGET_PLACES],
     values: &mut [usize; VALUES],
 ) -> usize
     ensures number { λ r. ⌜ r ≡ numberOf (outcomeOfVerdict (built .answer)) ⌝ }
@@ -188,17 +169,6 @@ pub fn made(
     *targets = sent;
     let answer = built.answer;
     verdict(answer, values)
-}
-
-// The walk of a group, the word of its next step and that step's index.
-pub fn walk_in(group: Group, at: &[u8; WORD_BYTES], index: usize) -> Walk
-    ensures { λ r. ⌜ r ≡ walkIn group (now (at .entry)) index ⌝ }
-{
-    Walk {
-        group,
-        word: *at,
-        index,
-    }
 }
 
 // A step of a walk: its entry's index, or that the walk is over.

@@ -112,7 +112,7 @@ fn targets(g: Group) {
     }
 }
 
-fn sends(targets: &[u32], generators: usize, sites: usize) {
+fn sends(targets: &[u16], generators: usize, sites: usize) {
     let mut g = 0;
     while g < generators {
         if 0 < g {
@@ -125,8 +125,8 @@ fn sends(targets: &[u32], generators: usize, sites: usize) {
 }
 
 // The targets of generator g.
-fn sent(targets: &[u32], g: usize, sites: usize) {
+fn sent(targets: &[u16], g: usize, sites: usize) {
     if g < MAX_GENERATORS {
-        lists::digits_from(targets, MAX_SITES * g, sites);
+        lists::targets_from(targets, MAX_SITES * g, sites);
     }
 }

@@ -10,6 +10,7 @@ use case_text::texts;
 use lines::answers;
 use outcome::Number;
 use pauli_word::Comparison;
+use pauli_word::OLD_WORD_BYTES;
 use pauli_word::Ordering;
 use pauli_word::WORD_BYTES;
 
@@ -64,6 +65,19 @@ fn of_bytes(before: Word, n: usize, text: &[u8]) -> Word {
     };
     lines::text(b"set");
     Word { n, bytes, length }
+}
+
+// The word in force, in the old form.
+pub fn old(before: Word) -> Word {
+    let full = before.bytes;
+    let mut bytes = [0u8; WORD_ROOM];
+    texts::write_old(&full, &mut bytes);
+    lines::text(b"set");
+    Word {
+        n: before.n,
+        bytes,
+        length: OLD_WORD_BYTES,
+    }
 }
 
 fn other(before: Word) -> Word {

@@ -1,6 +1,7 @@
 // The rows of a sum: their words in one list, their coefficients in two others, as floats and as whole numbers.
 use case_text::sizes::ROW_ROOM;
 use case_text::texts;
+use pauli_word::OLD_WORD_BYTES;
 use pauli_word::WORD_BYTES;
 
 // The values of a byte.
@@ -69,6 +70,31 @@ pub fn number(words: &mut [u8], coefficients: &mut [f64], wholes: &mut [i64], co
         );
         row += 1;
     }
+}
+
+// Writes the words of the first rows again, each in the old form, one after the other from the front.
+pub fn write_old(words: &mut [u8], count: usize) {
+    let mut row = 0;
+    while row < count {
+        old_row(words, row);
+        row += 1;
+    }
+}
+
+fn old_row(words: &mut [u8], row: usize) {
+    if ROW_ROOM <= row {
+        return;
+    }
+    let at = WORD_BYTES * row;
+    let end = at + WORD_BYTES;
+    if words.len() < end {
+        return;
+    }
+    let mut old = [0u8; OLD_WORD_BYTES];
+    texts::write_old(&words[at..end], &mut old);
+    let to = OLD_WORD_BYTES * row;
+    let stop = to + OLD_WORD_BYTES;
+    texts::write(&old, &mut words[to..stop]);
 }
 
 fn numbered(row: usize) -> [u8; WORD_BYTES] {

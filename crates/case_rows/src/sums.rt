@@ -7,6 +7,7 @@ use case_text::fields::Value;
 use case_text::hex;
 use case_text::hex::Float;
 use case_text::kinds::CLEAR;
+use case_text::kinds::OLD_ROWS;
 use case_text::kinds::ROW;
 use case_text::kinds::ROWS;
 use case_text::kinds::WHOLE;
@@ -47,6 +48,7 @@ pub fn put(
             wholes,
         ),
         ROWS | WHOLES => append_many(count, word, kind, rest, words, coefficients, wholes),
+        OLD_ROWS => old(count, words),
         _ => number(count, k, words, coefficients, wholes),
     }
 }
@@ -64,6 +66,12 @@ fn other(count: usize) -> usize {
 fn clear(count: usize, words: &mut [u8], coefficients: &mut [f64], wholes: &mut [i64]) -> usize {
     rows::fill(words, coefficients, wholes, 0, count, b"", 0.0, 0);
     set(0)
+}
+
+// The words in the old form, one after the other from the front.
+fn old(count: usize, words: &mut [u8]) -> usize {
+    rows::write_old(words, count);
+    set(count)
 }
 
 // The coefficients that a text writes: a whole number, or the bits of a float.

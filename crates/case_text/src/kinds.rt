@@ -18,84 +18,89 @@ pub const WORD: usize = 6;
 
 pub const BYTES: usize = 7;
 
-pub const MODES: usize = 8;
+pub const OLD: usize = 8;
 
-pub const ORBIT: usize = 9;
+pub const MODES: usize = 9;
 
-pub const NEXT: usize = 10;
+pub const ORBIT: usize = 10;
 
-pub const ORDER: usize = 11;
+pub const NEXT: usize = 11;
 
-pub const MODULUS: usize = 12;
+pub const ORDER: usize = 12;
 
-pub const INVERT: usize = 13;
+pub const MODULUS: usize = 13;
 
-pub const TARGETS: usize = 14;
+pub const INVERT: usize = 14;
 
-pub const TEXT: usize = 15;
+pub const TARGETS: usize = 15;
 
-pub const WEIGHT: usize = 16;
+pub const TEXT: usize = 16;
 
-pub const COMPARE: usize = 17;
+pub const WEIGHT: usize = 17;
 
-pub const COMPARE_TEXT: usize = 18;
+pub const COMPARE: usize = 18;
 
-pub const CANONICALIZE: usize = 19;
+pub const COMPARE_TEXT: usize = 19;
 
-pub const WITH_INDEX: usize = 20;
+pub const CANONICALIZE: usize = 20;
 
-pub const ORBIT_LIST: usize = 21;
+pub const WITH_INDEX: usize = 21;
 
-pub const NUMERATOR: usize = 22;
+pub const ORBIT_LIST: usize = 22;
 
-pub const TABLE: usize = 23;
+pub const NUMERATOR: usize = 23;
 
-pub const COUNTER: usize = 24;
+pub const TABLE: usize = 24;
 
-pub const WITH_SHIFT: usize = 25;
+pub const COUNTER: usize = 25;
 
-pub const SECTOR: usize = 26;
+pub const WITH_SHIFT: usize = 26;
 
-pub const BESIDE: usize = 27;
+pub const SECTOR: usize = 27;
 
-pub const SHEET: usize = 28;
+pub const BESIDE: usize = 28;
 
-pub const SHEET_END: usize = 29;
+pub const SHEET: usize = 29;
 
-pub const SHEET_IN: usize = 30;
+pub const SHEET_END: usize = 30;
 
-pub const CLEAR: usize = 31;
+pub const SHEET_IN: usize = 31;
 
-pub const ROW: usize = 32;
+pub const CLEAR: usize = 32;
 
-pub const ROWS: usize = 33;
+pub const ROW: usize = 33;
 
-pub const WHOLE: usize = 34;
+pub const ROWS: usize = 34;
 
-pub const WHOLES: usize = 35;
+pub const WHOLE: usize = 35;
 
-pub const NUMBERED: usize = 36;
+pub const WHOLES: usize = 36;
 
-pub const SUM: usize = 37;
+pub const NUMBERED: usize = 37;
 
-pub const SUM_AT: usize = 38;
+pub const OLD_ROWS: usize = 38;
 
-pub const PROJECT: usize = 39;
+pub const SUM: usize = 39;
 
-pub const PROJECT_AT: usize = 40;
+pub const SUM_AT: usize = 40;
 
-pub const PHASE_TABLE: usize = 41;
+pub const PROJECT: usize = 41;
 
-pub const PHASE_FILE: usize = 42;
+pub const PROJECT_AT: usize = 42;
 
-pub const PHASE: usize = 43;
+pub const PHASE_TABLE: usize = 43;
+
+pub const PHASE_FILE: usize = 44;
+
+pub const PHASE: usize = 45;
 
 // The kind of a name; a number above all kinds where there is none.
 pub fn of(name: &[u8]) -> usize {
-    let names = b" group chain ladder torus2 torus3 set word bytes modes orbit next order modulus \
-        invert targets text weight compare compare_text canonicalize with_index orbit_list \
-        numerator table counter with_shift sector beside sheet sheet_end sheet_in clear row \
-        rows whole wholes numbered sum sum_at project project_at phase_table phase_file phase";
+    let names = b" group chain ladder torus2 torus3 set word bytes old modes orbit next order \
+        modulus invert targets text weight compare compare_text canonicalize with_index \
+        orbit_list numerator table counter with_shift sector beside sheet sheet_end sheet_in \
+        clear row rows whole wholes numbered old_rows sum sum_at project project_at phase_table \
+        phase_file phase";
     place(name, names)
 }
 
@@ -118,7 +123,9 @@ pub fn place(name: &[u8], names: &[u8]) -> usize {
 pub fn has_form(kind: usize, count: usize) -> bool {
     match kind {
         ORBIT
+        | OLD
         | CLEAR
+        | OLD_ROWS
         | ORDER
         | MODULUS
         | TARGETS

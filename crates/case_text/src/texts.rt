@@ -5,6 +5,10 @@ ghost use lib.ListN.{length};
 use crate::fields;
 use crate::fields::Value;
 use crate::hex;
+use pauli_word::OLD_PLANE_BYTES;
+use pauli_word::OLD_WORD_BYTES;
+use pauli_word::PLANE_BYTES;
+use pauli_word::WORD_BYTES;
 
 // The bytes of `\HH`.
 const ESCAPE: usize = 3;
@@ -30,6 +34,21 @@ pub fn write(bytes: &[u8], list: &mut [u8]) {
         list[i] = byte(bytes, i);
         i += 1;
     }
+}
+
+// Writes a word in full over the front of a list in the old form: the first bytes of either plane.
+pub fn write_old(full: &[u8], list: &mut [u8]) {
+    if full.len() < WORD_BYTES {
+        return;
+    }
+    if list.len() < OLD_WORD_BYTES {
+        return;
+    }
+    write(&full[0..OLD_PLANE_BYTES], &mut list[0..OLD_PLANE_BYTES]);
+    write(
+        &full[PLANE_BYTES..PLANE_BYTES + OLD_PLANE_BYTES],
+        &mut list[OLD_PLANE_BYTES..OLD_WORD_BYTES],
+    );
 }
 
 // The first k bytes, or all where there are fewer.

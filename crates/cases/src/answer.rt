@@ -77,7 +77,7 @@ fn of_kind(
             sheets::answer(kind, rest);
             s
         }
-        kinds::CLEAR..=kinds::NUMBERED => {
+        kinds::CLEAR..=kinds::OLD_ROWS => {
             put_rows(s, kind, rest, args, words, coefficients, wholes)
         }
         kinds::SUM..=kinds::PROJECT_AT => {
@@ -98,7 +98,7 @@ fn put(mut s: State, kind: usize, rest: &[u8], args: Args) -> State {
             s.group = g;
             s
         }
-        kinds::WORD..=kinds::BYTES => {
+        kinds::WORD..=kinds::OLD => {
             let w = worded(s.word, kind, rest);
             s.word = w;
             s
@@ -121,10 +121,10 @@ fn grouped(before: Group, kind: usize, rest: &[u8], args: Args) -> Group {
 }
 
 fn worded(before: Word, kind: usize, rest: &[u8]) -> Word {
-    if kind == kinds::WORD {
-        words::read(rest)
-    } else {
-        words::put(before, rest)
+    match kind {
+        kinds::WORD => words::read(rest),
+        kinds::BYTES => words::put(before, rest),
+        _ => words::old(before),
     }
 }
 

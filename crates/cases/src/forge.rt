@@ -32,8 +32,10 @@ const COSINE: usize = 7;
 
 const SINE: usize = 8;
 
-// The largest order or target.
+// The largest order, and the largest number in a place for a target.
 const LARGEST: usize = MAX_DECLARED as usize;
+
+const LARGEST_TARGET: usize = 65535;
 
 // ` NAME V` or ` NAME I V`.
 pub fn set(s: State, rest: &[u8]) -> State {
@@ -94,7 +96,7 @@ fn has_form(what: usize, count: usize, a: usize, b: usize) -> bool {
         SITES | GENERATORS | N | INDEX => count == 1,
         LENGTH => count == 1 && a <= WORD_ROOM,
         ORDER => count == 2 && a < MAX_GENERATORS && b <= LARGEST,
-        TARGET => count == 2 && a < TARGET_PLACES && b <= LARGEST,
+        TARGET => count == 2 && a < TARGET_PLACES && b <= LARGEST_TARGET,
         _ => false,
     }
 }
@@ -119,7 +121,7 @@ fn forged(mut g: Group, what: usize, a: usize, b: usize) -> Group {
         }
         _ => {
             if a < TARGET_PLACES {
-                g.targets[a] = narrow(b);
+                g.targets[a] = target(b);
             }
         }
     }
@@ -128,4 +130,8 @@ fn forged(mut g: Group, what: usize, a: usize, b: usize) -> Group {
 
 fn narrow(v: usize) -> u32 {
     if v <= LARGEST { v as u32 } else { 0 }
+}
+
+fn target(v: usize) -> u16 {
+    if v <= LARGEST_TARGET { v as u16 } else { 0 }
 }

@@ -2,9 +2,9 @@
 //
 // A line ends with byte 10, its fields are parted by one space, the first is its name. In force are a group, a word (a site count n and at most
 // WORD_ROOM bytes), at most MODE_ROOM modes, a walk, a phase table, and the rows of a sum, at most ROW_ROOM; all is empty and zero at first, and the
-// phase table the constant one. Numbers are decimal, of 64 bits, targets, orders and digits of 32, modes signed 32; HEX is hexadecimal. Below, REFUSED
-// is `refused N` with ` v` for each value that rule N names; LETTERS is a word by `to_text` at the n in force; a list is printed with a space before
-// each member. Lent lists are all nines before.
+// phase table the constant one. Numbers are decimal, of 64 bits, targets, orders and digits of 32, modes signed 32, places of a group value 16; HEX
+// is hexadecimal. Below, REFUSED is `refused N` with ` v` for each value that rule N names; LETTERS is a word by `to_text` at the n in force; a list
+// is printed with a space before each member. Lent lists are all nines before.
 //
 // | line                            | does                                                      | prints                                             |
 // |---------------------------------|-----------------------------------------------------------|----------------------------------------------------|
@@ -22,6 +22,8 @@
 // | `counter I K`                   | counter_from_index into K places                          | `done:` or `REFUSED:`, the list                    |
 // | `word TEXT`                     | from_text; the word is in force, n 0 beside a refusal     | n or REFUSED                                       |
 // | `bytes N HEX`                   | nothing: n and these bytes are in force                   | `set`                                              |
+// | `old`                           | nothing: the word, in full, is in force in the old form,  | `set`                                              |
+// |                                 | the first OLD_PLANE_BYTES of either plane                 |                                                    |
 // | `text`, `weight`                | to_text, weight                                           | LETTERS or the number, or REFUSED                  |
 // | `compare HEX`                   | compare, with these bytes                                 | `less`, `same`, `greater` or REFUSED               |
 // | `compare_text TEXT`             | the same with the word of a text                          | likewise                                           |
@@ -47,6 +49,8 @@
 // |                                 | C, signed 64                                              |                                                    |
 // | `numbered K`                    | nothing: K rows, each its number, in binary digits as X   | `set`                                              |
 // |                                 | from site 0 on, as a float and as a whole number          |                                                    |
+// | `old_rows`                      | nothing: the words of the rows are written again, each    | `set`                                              |
+// |                                 | in the old form, one after the other from the front       |                                                    |
 // | `sum`                           | canonicalize_pauli_sum                                    | `N rows:` and ` LETTERS HEX COUNT` for each; or    |
 // |                                 |                                                           | REFUSED and `, as they were`, `, zeros` or         |
 // |                                 |                                                           | `, changed`                                        |

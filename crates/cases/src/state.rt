@@ -27,7 +27,7 @@ pub fn nothing() -> State {
         sites: 0,
         generators: 0,
         orders: [0u32; MAX_GENERATORS],
-        targets: [0u32; TARGET_PLACES],
+        targets: [0u16; TARGET_PLACES],
     };
     let word = Word {
         n: 0,

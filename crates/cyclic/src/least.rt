@@ -59,7 +59,7 @@ fn least_within(word: &[u8], sites: usize, block: usize, x: &mut [u64], z: &mut 
 
 // The least word of a word's orbit, the smallest index that reaches it, and the step.
 pub fn canonicalize_block_cyclic(
-    targets: &[u32],
+    targets: &[u16],
     orders: &[u32],
     sites: usize,
     block: usize,

@@ -8,7 +8,7 @@ ghost use Rattle.action.specs.Sector.{modulus};
 ghost use Rattle.elements.specs.HeldGroup.{generatorsIn, Tables};
 
 // The group order: the product of the orders.
-pub fn order(targets: &[u32], orders: &[u32], generators: usize, sites: usize) -> usize
+pub fn order(targets: &[u16], orders: &[u32], generators: usize, sites: usize) -> usize
     requires { ⌜ Tables generators sites (now targets) (now orders) ⌝ }
     ensures { λ r. ⌜ r ≡ orderOf (generatorsIn generators sites (now (targets .entry)) (now (orders .entry))) ⌝ }
 {
@@ -22,7 +22,7 @@ pub fn order(targets: &[u32], orders: &[u32], generators: usize, sites: usize) -
 }
 
 // The phase modulus: the least common multiple of the orders.
-pub fn phase_modulus(targets: &[u32], orders: &[u32], generators: usize, sites: usize) -> usize
+pub fn phase_modulus(targets: &[u16], orders: &[u32], generators: usize, sites: usize) -> usize
     requires { ⌜ Tables generators sites (now targets) (now orders) ⌝ }
     ensures { λ r. ⌜ r ≡ modulus (generatorsIn generators sites (now (targets .entry)) (now (orders .entry))) ⌝ }
 {
@@ -38,7 +38,7 @@ pub fn phase_modulus(targets: &[u32], orders: &[u32], generators: usize, sites: 
 
 // The digits of an index, into the first places of counter; the others stay.
 pub fn fill_counter(
-    targets: &[u32],
+    targets: &[u16],
     orders: &[u32],
     generators: usize,
     sites: usize,
@@ -61,7 +61,7 @@ pub fn fill_counter(
 
 // The inverse of an index: digit by digit (o - c) mod o.
 pub fn invert(
-    targets: &[u32],
+    targets: &[u16],
     orders: &[u32],
     generators: usize,
     sites: usize,

@@ -35,7 +35,7 @@ pub fn unpack(word: &[u8], sites: usize, letters: &mut [u8])
 }
 
 // The codes of a word, moved: site q's goes to site perm[q].
-pub fn move_letters(perm: &[u32], from: &[u8], to: &mut [u8])
+pub fn move_letters(perm: &[u16], from: &[u8], to: &mut [u8])
     requires { ⌜ Permutes (length (now from)) (now perm) ⌝ }
     requires { ⌜ length (now to) ≡ length (now from) ⌝ }
     ensures { λ _. ⌜ ((w : Word) → now (from .entry) ≡ codes w → now (to .exit) ≡ codes (moveBy (now (perm .entry)) w)) ⌝ }
@@ -95,7 +95,7 @@ pub fn pack(letters: &[u8]) -> [u8; WORD_BYTES]
 
 // The bytes of a word, moved by way of its codes; from and to are room for them.
 pub fn moved(
-    perm: &[u32],
+    perm: &[u16],
     sites: usize,
     word: &[u8],
     from: &mut [u8],

@@ -20,7 +20,7 @@ pub struct LeastWord {
 }
 
 // A word moved by one generator: site q's letter goes to site perm[q].
-pub fn apply_generator(perm: &[u32], sites: usize, word: &[u8]) -> [u8; WORD_BYTES]
+pub fn apply_generator(perm: &[u16], sites: usize, word: &[u8]) -> [u8; WORD_BYTES]
     requires { ⌜ Permutes sites (now perm) ⌝ }
     requires { ⌜ AcceptedWord sites (now word) ⌝ }
     ensures { λ r. ⌜ r ≡ bytesOf (moveBy (now (perm .entry)) (lettersIn sites (now (word .entry)))) ⌝ }
@@ -32,7 +32,7 @@ pub fn apply_generator(perm: &[u32], sites: usize, word: &[u8]) -> [u8; WORD_BYT
 
 // The walk's step from the entry of an index to the next: moved by generator 0, and by each next one while the digits below roll over.
 pub fn advance(
-    targets: &[u32],
+    targets: &[u16],
     orders: &[u32],
     generators: usize,
     sites: usize,
@@ -75,7 +75,7 @@ pub fn take_less(here: &[u8], sites: usize, i: usize, best: &mut [u8], index: us
 
 // The least word of the orbit, by walking it whole, and the smallest index that reaches it.
 pub fn canonicalize_odometer(
-    targets: &[u32],
+    targets: &[u16],
     orders: &[u32],
     generators: usize,
     sites: usize,

@@ -98,6 +98,12 @@ module _ {list : List ℕ} {sites : ℕ} {targets : List ℕ} {at g : ℕ} (r : 
       pub generator-long : length (permAt list at) ≡ sites
       generator-long = perm-fine sites g (permAt list at) ok .long
 
+      -- its targets are sites
+      pub generator-inside : (q : ℕ) → q < length (permAt list at) → getD (permAt list at) q 0 ≤ maxSites
+      generator-inside q h =
+          let inside = perm-fine sites g (permAt list at) ok .inside q (omega (arith, h, generator-long)) in
+          omega (arith, inside, small)
+
       pub read-next :
           Read list sites (take (maxSites * g) targets ++ (permAt list at ++ drop (maxSites * g + sites - maxSites * g) (drop (maxSites * g) targets)))
           (at + 1 + getD list at 0) (g + 1)

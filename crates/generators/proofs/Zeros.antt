@@ -6,14 +6,13 @@ use mathlib.Core.Bool.{true, _&&_, and-eq-true-iff, and-assoc, and-true}
 use mathlib.Core.List.{List, [], _∷_}
 use native.Mathlib.Nat.{sub-zero, zero-sub, suc-sub-suc}
 use native.Mathlib.Numerals.{add-one}
-use native.Mathlib.Omega.{arith}
-use lib.Bits.{bitOr, and-le-l, and-le-r, or-add-and}
+use lib.Bits.{bitOr}
 use lib.Dec.{eqb}
 use lib.ListN.{length, getD, drop, replicate, drop-of-length-le}
 use lib.Seq.{drop-cons}
-use borrow.Author.Tests.{eq-eqb, eqb-true}
+use borrow.Author.Tests.{eqb-true}
+use Rattle.pauli_word.proofs.Bits.{or-none}
 use Rattle.action.specs.Lists.{every}
-use Rattle.action.proofs.Lists.{bool-ext}
 use Rattle.generators.specs.Tables.{zeros}
 
 -- k zeros
@@ -38,19 +37,6 @@ blank-zeros (x ∷ xs) e =
     ap₂ (λ (y : ℕ) (ys : List ℕ). y ∷ ys) (eqb-true x 0 first) (blank-zeros xs rest)
 
 -- ---- numbers put together by `or`, from the front on
-
--- no bit is set in both together exactly if none is set in either
-pub or-none : (a b : ℕ) → eqb (bitOr a b) 0 ≡ (eqb a 0 && eqb b 0)
-or-none a b =
-    bool-ext (eqb (bitOr a b) 0) (eqb a 0 && eqb b 0)
-    (λ e.
-    let none = eqb-true (bitOr a b) 0 e in
-    let whole = or-add-and a b in
-    and-eq-true-iff (eqb a 0) (eqb b 0) .1
-    (eq-eqb a 0 (omega (arith, and-le-l a b, and-le-r a b)), eq-eqb b 0 (omega (arith, and-le-l a b, and-le-r a b))))
-    (λ e.
-    let (x, y) = and-eq-true-iff (eqb a 0) (eqb b 0) .0 e in
-    eq-eqb (bitOr a b) 0 (ap₂ bitOr (eqb-true a 0 x) (eqb-true b 0 y)))
 
 module _ (xs : List ℕ) (i : ℕ) (any : ℕ) where
   -- those up to place i, put together, and those from there on

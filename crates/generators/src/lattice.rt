@@ -48,20 +48,20 @@ pub fn shifted(stride: usize, side: usize, q: usize) -> usize
 }
 
 // The targets of a shift along an axis.
-pub fn fill_shift(row: &mut [u32], stride: usize, side: usize)
+pub fn fill_shift(row: &mut [u16], stride: usize, side: usize)
     requires { ⌜ (0 < stride) × (0 < side) × (stride * side ≤ maxSites) × (length (now row) ≤ maxSites) ⌝ }
     ensures { λ _. ⌜ now (row .exit) ≡ map (shiftedSite stride side) (below (length (now (row .entry)))) ⌝ }
 {
     let mut q = 0;
     while q < row.len() {
-        row[q] = shifted(stride, side, q) as u32;
+        row[q] = shifted(stride, side, q) as u16;
         q += 1;
     }
 }
 
 // The targets and orders of the shifts along the axes with these sides, over zeros: axis g's places are a stride apart, the product of the
 // sides before it.
-pub fn fill_shifts(sides: &[usize], sites: usize, targets: &mut [u32], orders: &mut [u32])
+pub fn fill_shifts(sides: &[usize], sites: usize, targets: &mut [u16], orders: &mut [u32])
     requires { ⌜ (length (now sides) ≤ maxGenerators) × (sites ≤ maxSites) × (0 < product (now sides)) × (product (now sides) ≤ maxSites) ⌝ }
     requires { ⌜ (now targets ≡ replicate targetPlaces 0) × (now orders ≡ replicate maxGenerators 0) ⌝ }
     ensures targets { λ _. ⌜ now (targets .exit) ≡ placedAll (map (λ g. g .perm) (shifts sites 1 (now (sides .entry)))) ⌝ }

@@ -2,8 +2,8 @@
 // Whoever calls a function here owes its `requires`.
 ghost use mathlib.Core.Path.{_≡_};
 ghost use mathlib.Core.Bool.{false};
-ghost use Prim.Native.Nat.{_≤_};
-ghost use lib.ListN.{length, replicate};
+ghost use Prim.Native.Nat.{ℕ, _≤_, _<_};
+ghost use lib.ListN.{length, getD, replicate};
 ghost use Rattle.pauli_word.specs.Limits.{maxSites};
 ghost use Rattle.outcome.specs.Outcome.{alone, outcomeOfVerdict, outcomeOfNumber};
 ghost use Rattle.permutation.specs.Limits.{targetPlaces, maxGenerators};
@@ -45,6 +45,19 @@ pub fn copy(src: &[u32], dst: &mut [u32])
     }
 }
 
+// Stores targets, each of at most MAX_SITES, in places of 16 bits.
+pub fn store(src: &[u32], dst: &mut [u16])
+    requires { ⌜ length (now src) ≡ length (now dst) ⌝ }
+    requires { ⌜ ((q : ℕ) → q < length (now src) → getD (now src) q 0 ≤ maxSites) ⌝ }
+    ensures { λ _. ⌜ now (dst .exit) ≡ now (src .entry) ⌝ }
+{
+    let mut i = 0;
+    while i < src.len() {
+        dst[i] = src[i] as u16;
+        i += 1;
+    }
+}
+
 // The first fault of a generator, 5 to 7.
 pub fn fault(generator: usize, perm: &[u32], sites: usize) -> Verdict
     requires { ⌜ sites ≤ maxSites ⌝ }
@@ -57,7 +70,7 @@ pub fn fault(generator: usize, perm: &[u32], sites: usize) -> Verdict
 }
 
 // The targets of a list's generators, MAX_SITES places each, over zeros, up to the first fault, 5 to 7.
-pub fn fill_targets(list: &[u32], sites: usize, targets: &mut [u32]) -> Verdict
+pub fn fill_targets(list: &[u32], sites: usize, targets: &mut [u16]) -> Verdict
     requires { ⌜ sites ≤ maxSites ⌝ }
     requires { ⌜ (endsInside (now list) ≡ false) × (length (permsOf (now list)) ≤ maxGenerators) ⌝ }
     requires { ⌜ now targets ≡ replicate targetPlaces 0 ⌝ }
@@ -75,7 +88,7 @@ pub fn fill_targets(list: &[u32], sites: usize, targets: &mut [u32]) -> Verdict
         }
         let place = MAX_SITES * g;
         let stop = place + sites;
-        copy(&list[start..end], &mut targets[place..stop]);
+        store(&list[start..end], &mut targets[place..stop]);
         at = end;
         g += 1;
     }

@@ -17,7 +17,7 @@ use permutation::MAX_GENERATORS;
 use permutation::MAX_ORDER;
 
 // The first fault of the orders, 8 to 10.
-pub fn orders_fault(targets: &[u32], orders: &[u32], generators: usize, sites: usize) -> Verdict
+pub fn orders_fault(targets: &[u16], orders: &[u32], generators: usize, sites: usize) -> Verdict
     requires { ⌜ (length (now targets) ≡ targetPlaces) × (length (now orders) ≡ maxGenerators) × (generators ≤ maxGenerators) × (sites ≤ maxSites) ⌝ }
     requires { ⌜ ((g : ℕ) → g < generators → Permutes sites (rowAt sites (now targets) g)) ⌝ }
     ensures { λ r. ⌜ outcomeOfVerdict r ≡ alone (ordersCheck 0 (rowsOf generators sites (now (targets .entry))) (take generators (now (orders .entry)))) ⌝ }
@@ -42,7 +42,7 @@ pub fn orders_fault(targets: &[u32], orders: &[u32], generators: usize, sites: u
 }
 
 // The first fault of permutations with their orders, 8 to 13.
-pub fn group_fault(targets: &[u32], orders: &[u32], generators: usize, sites: usize) -> Verdict
+pub fn group_fault(targets: &[u16], orders: &[u32], generators: usize, sites: usize) -> Verdict
     requires { ⌜ (length (now targets) ≡ targetPlaces) × (length (now orders) ≡ maxGenerators) × (generators ≤ maxGenerators) × (sites ≤ maxSites) ⌝ }
     requires { ⌜ ((g : ℕ) → g < generators → Permutes sites (rowAt sites (now targets) g)) ⌝ }
     ensures { λ r. ⌜ outcomeOfVerdict r ≡ verdict (groupChecks sites (rowsOf generators sites (now (targets .entry))) (take generators (now (orders .entry)))) ⌝ }
@@ -62,21 +62,34 @@ pub fn group_fault(targets: &[u32], orders: &[u32], generators: usize, sites: us
     Verdict::Accepted
 }
 
-// Whether all numbers are 0: none has a bit set. No branch for a number, so that several are looked at in one step.
-pub fn all_zero(numbers: &[u32]) -> bool
-    ensures { λ r. ⌜ r ≡ zeros (now (numbers .entry)) ⌝ }
+// Whether all targets are 0: none has a bit set. No branch for a target, so that several are looked at in one step.
+pub fn all_zero(targets: &[u16]) -> bool
+    ensures { λ r. ⌜ r ≡ zeros (now (targets .entry)) ⌝ }
+{
+    let mut any = 0u16;
+    let mut i = 0;
+    while i < targets.len() {
+        any = any | targets[i];
+        i += 1;
+    }
+    any == 0
+}
+
+// Whether all orders are 0.
+pub fn no_orders(orders: &[u32]) -> bool
+    ensures { λ r. ⌜ r ≡ zeros (now (orders .entry)) ⌝ }
 {
     let mut any = 0u32;
     let mut i = 0;
-    while i < numbers.len() {
-        any = any | numbers[i];
+    while i < orders.len() {
+        any = any | orders[i];
         i += 1;
     }
     any == 0
 }
 
 // Whether each generator's targets are a permutation of the sites.
-pub fn perms_fine(targets: &[u32], generators: usize, sites: usize) -> bool
+pub fn perms_fine(targets: &[u16], generators: usize, sites: usize) -> bool
     requires { ⌜ (length (now targets) ≡ targetPlaces) × (generators ≤ maxGenerators) × (sites ≤ maxSites) ⌝ }
     ensures { λ r. ⌜ r ≡ not (permsCheck sites 0 (rowsOf generators sites (now (targets .entry))) .broken) ⌝ }
 {
@@ -84,17 +97,16 @@ pub fn perms_fine(targets: &[u32], generators: usize, sites: usize) -> bool
     while g < generators {
         let start = MAX_SITES * g;
         let end = start + sites;
-        let Verdict::Accepted = permutation::inner::first_fault(g, &targets[start..end], sites)
-        else {
+        if !permutation::inner::permutes(&targets[start..end], sites) {
             return false;
-        };
+        }
         g += 1;
     }
     true
 }
 
 // Whether the places above the sites are 0, generator by generator.
-pub fn rests_clear(targets: &[u32], generators: usize, sites: usize) -> bool
+pub fn rests_clear(targets: &[u16], generators: usize, sites: usize) -> bool
     requires { ⌜ (length (now targets) ≡ targetPlaces) × (generators ≤ maxGenerators) × (sites ≤ maxSites) ⌝ }
     ensures { λ r. ⌜ r ≡ restsClear generators sites (now (targets .entry)) ⌝ }
 {
@@ -111,7 +123,7 @@ pub fn rests_clear(targets: &[u32], generators: usize, sites: usize) -> bool
 }
 
 // Whether tables hold a group of at most MAX_SITES sites: no more than MAX_GENERATORS generators, which break none of the rules 5 to 13, and unused places 0.
-pub fn hold_group(targets: &[u32], orders: &[u32], generators: usize, sites: usize) -> bool
+pub fn hold_group(targets: &[u16], orders: &[u32], generators: usize, sites: usize) -> bool
     requires { ⌜ (length (now targets) ≡ targetPlaces) × (length (now orders) ≡ maxGenerators) × (sites ≤ maxSites) ⌝ }
     ensures { λ r. ⌜ r ≡ holdGroup generators sites (now (targets .entry)) (now (orders .entry)) ⌝ }
 {
@@ -131,5 +143,5 @@ pub fn hold_group(targets: &[u32], orders: &[u32], generators: usize, sites: usi
     if !all_zero(&targets[unused..]) {
         return false;
     }
-    all_zero(&orders[generators..])
+    no_orders(&orders[generators..])
 }

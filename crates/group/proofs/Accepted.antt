@@ -34,15 +34,18 @@ module _ (g : Group) where
 
 -- ---- a value that passes
 
+pub value-fine : (g : Group) → verdict (valueChecks g) ≡ answer tt → (g .sites ≤ maxSites) × (isGroup g ≡ true)
+value-fine g pass =
+    let one = verdict-fine (siteCount (g .sites)) (notAGroup g ∷ []) pass in
+    (ltb-false maxSites (g .sites) (one .0), not-false (isGroup g) (verdict-fine (notAGroup g) [] (one .1) .0))
+
 module _ (g : Group) (targets : length (g .targets) ≡ targetPlaces) (orders : length (g .orders) ≡ maxGenerators) where
   pub accepted-by : ltb maxSites (g .sites) ≡ false → not (isGroup g) ≡ false → AcceptedGroup g
   accepted-by few one =
       record { few = ltb-false maxSites (g .sites) few; isOne = not-false (isGroup g) one; targets = targets; orders = orders }
 
   pub value-accepted : verdict (valueChecks g) ≡ answer tt → AcceptedGroup g
-  value-accepted pass =
-      let one = verdict-fine (siteCount (g .sites)) (notAGroup g ∷ []) pass in
-      accepted-by (one .0) (verdict-fine (notAGroup g) [] (one .1) .0)
+  value-accepted pass = let (few, one) = value-fine g pass in record { few = few; isOne = one; targets = targets; orders = orders }
 
 pub accepted-tables : (g : Group) → AcceptedGroup g → Tables (g .generators) (g .sites) (g .targets) (g .orders)
 unfolding isGroup generatorsIn

@@ -16,6 +16,10 @@ use Rattle.generators.specs.Tables.{filled, placedAll, holdGroup}
 use Rattle.elements.specs.HeldGroup.{generatorsIn}
 use Rattle.group.specs.declared.Group.{Group}
 
+-- a group value by its parts
+abbrev pub groupIn : ℕ → ℕ → List ℕ → List ℕ → Group
+groupIn sites generators orders targets = record { sites = sites; generators = generators; orders = orders; targets = targets }
+
 -- ---- the value of generators: unused places are 0
 
 unfoldable pub groupOf : ℕ → List Generator → Group

@@ -1,49 +1,51 @@
 // Indices of a group that has passed its checks. Whoever calls a function here owes its `requires`.
 ghost use mathlib.Core.Path.{_≡_};
 ghost use lib.ListN.{length};
-ghost use Rattle.outcome.specs.Outcome.{outcomeOfVerdict, outcomeOfNumber, onAnswer, done, itself, orElse};
-ghost use Rattle.group.specs.Value.{AcceptedGroup};
-ghost use Rattle.group.specs.Calls.{counterOutcome, invertOutcome};
-use crate::Group;
-use crate::inner;
+ghost use Rattle.outcome.specs.Outcome.{answer, verdict, outcomeOfVerdict, outcomeOfNumber, onAnswer, done, itself, orElse};
+ghost use Rattle.group.specs.Value.{groupIn};
+ghost use Rattle.group.specs.Calls.{valueChecks, counterOutcome, invertOutcome};
 use outcome::Number;
 use outcome::Refusal;
 use outcome::Verdict;
+use permutation::MAX_GENERATORS;
+use permutation::TARGET_PLACES;
 
 // 19, 21, then the digits.
-pub fn counter_of(group: Group, index: usize, counter: &mut [u32]) -> Verdict
-    requires { ⌜ AcceptedGroup group ⌝ }
-    ensures answer { λ r. ⌜ outcomeOfVerdict r ≡ onAnswer done (counterOutcome group index (length (now (counter .entry)))) ⌝ }
-    ensures counter { λ _. ⌜ now (counter .exit) ≡ orElse itself (now (counter .entry)) (counterOutcome group index (length (now (counter .entry)))) ⌝ }
+pub fn counter_of<'a>(
+    targets: &'a [u16; TARGET_PLACES],
+    orders: &'a [u32; MAX_GENERATORS],
+    generators: usize,
+    sites: usize,
+    index: usize,
+    counter: &mut [u32],
+) -> Verdict
+    requires { ⌜ verdict (valueChecks (groupIn sites generators (now orders) (now targets))) ≡ answer tt ⌝ }
+    ensures answer { λ r. ⌜ outcomeOfVerdict r ≡ onAnswer done (counterOutcome (groupIn sites generators (now (orders .entry)) (now (targets .entry))) index (length (now (counter .entry)))) ⌝ }
+    ensures counter { λ _. ⌜ now (counter .exit) ≡ orElse itself (now (counter .entry)) (counterOutcome (groupIn sites generators (now (orders .entry)) (now (targets .entry))) index (length (now (counter .entry)))) ⌝ }
 {
-    if inner::order_of(group) <= index {
+    if elements::index::order(targets, orders, generators, sites) <= index {
         return Verdict::Refused(Refusal::IndexRange);
     }
-    if counter.len() != group.generators {
+    if counter.len() != generators {
         return Verdict::Refused(Refusal::ListLength);
     }
-    let targets = group.targets;
-    let orders = group.orders;
-    elements::index::fill_counter(
-        &targets,
-        &orders,
-        group.generators,
-        group.sites,
-        index,
-        counter,
-    );
+    elements::index::fill_counter(targets, orders, generators, sites, index, counter);
     Verdict::Accepted
 }
 
 // 19, then the inverse.
-pub fn inverse_of(group: Group, index: usize) -> Number
-    requires { ⌜ AcceptedGroup group ⌝ }
-    ensures { λ r. ⌜ outcomeOfNumber r ≡ invertOutcome group index ⌝ }
+pub fn inverse_of<'a>(
+    targets: &'a [u16; TARGET_PLACES],
+    orders: &'a [u32; MAX_GENERATORS],
+    generators: usize,
+    sites: usize,
+    index: usize,
+) -> Number
+    requires { ⌜ verdict (valueChecks (groupIn sites generators (now orders) (now targets))) ≡ answer tt ⌝ }
+    ensures { λ r. ⌜ outcomeOfNumber r ≡ invertOutcome (groupIn sites generators (now (orders .entry)) (now (targets .entry))) index ⌝ }
 {
-    if inner::order_of(group) <= index {
+    if elements::index::order(targets, orders, generators, sites) <= index {
         return Number::Refused(Refusal::IndexRange);
     }
-    let targets = group.targets;
-    let orders = group.orders;
-    Number::Value(elements::index::invert(&targets, &orders, group.generators, group.sites, index))
+    Number::Value(elements::index::invert(targets, orders, generators, sites, index))
 }

@@ -1,11 +1,9 @@
-// What the crates above need of a group value. Whoever calls a function here owes its `requires`.
+// What the crates above need of a group value, by its parts, which are lent. Whoever calls a function here owes its `requires`.
 ghost use mathlib.Core.Path.{_≡_};
 ghost use Prim.Native.Nat.{_≤_};
 ghost use Rattle.outcome.specs.Outcome.{verdict, outcomeOfVerdict};
 ghost use Rattle.pauli_word.specs.Limits.{maxSites};
-ghost use Rattle.action.specs.Index.{orderOf};
-ghost use Rattle.action.specs.Sector.{modulus};
-ghost use Rattle.group.specs.Value.{noGroup, isGroup, generatorsOf, AcceptedGroup};
+ghost use Rattle.group.specs.Value.{groupIn, noGroup, isGroup};
 ghost use Rattle.group.specs.Calls.{valueChecks};
 use crate::Group;
 use outcome::Refusal;
@@ -21,51 +19,38 @@ pub fn no_group() -> Group
         sites: 0,
         generators: MAX_GENERATORS + 1,
         orders: [0u32; MAX_GENERATORS],
-        targets: [0u32; TARGET_PLACES],
+        targets: [0u16; TARGET_PLACES],
     }
 }
 
 // Whether a value of at most MAX_SITES sites is one that accepted generators give.
-pub fn is_group(group: Group) -> bool
-    requires { ⌜ group .sites ≤ maxSites ⌝ }
-    ensures { λ r. ⌜ r ≡ isGroup group ⌝ }
+pub fn is_group<'a>(
+    targets: &'a [u16; TARGET_PLACES],
+    orders: &'a [u32; MAX_GENERATORS],
+    generators: usize,
+    sites: usize,
+) -> bool
+    requires { ⌜ sites ≤ maxSites ⌝ }
+    ensures { λ r. ⌜ r ≡ isGroup (groupIn sites generators (now (orders .entry)) (now (targets .entry))) ⌝ }
 {
-    let targets = group.targets;
-    let orders = group.orders;
-    generators::tables::hold_group(&targets, &orders, group.generators, group.sites)
+    generators::tables::hold_group(targets, orders, generators, sites)
 }
 
 // The checks of a group value: 1, 14.
-pub fn value_checked(group: Group) -> Verdict
-    ensures { λ r. ⌜ outcomeOfVerdict r ≡ verdict (valueChecks group) ⌝ }
+pub fn value_checked<'a>(
+    targets: &'a [u16; TARGET_PLACES],
+    orders: &'a [u32; MAX_GENERATORS],
+    generators: usize,
+    sites: usize,
+) -> Verdict
+    ensures { λ r. ⌜ outcomeOfVerdict r ≡ verdict (valueChecks (groupIn sites generators (now (orders .entry)) (now (targets .entry)))) ⌝ }
 {
-    let sites = group.sites;
     if pauli_word::MAX_SITES < sites {
         return Verdict::Refused(Refusal::TooManySites);
     }
-    if is_group(group) {
+    if is_group(targets, orders, generators, sites) {
         Verdict::Accepted
     } else {
         Verdict::Refused(Refusal::InvalidValue)
     }
-}
-
-// The order of a group.
-pub fn order_of(group: Group) -> usize
-    requires { ⌜ AcceptedGroup group ⌝ }
-    ensures { λ r. ⌜ r ≡ orderOf (generatorsOf group) ⌝ }
-{
-    let targets = group.targets;
-    let orders = group.orders;
-    elements::index::order(&targets, &orders, group.generators, group.sites)
-}
-
-// The phase modulus of a group.
-pub fn modulus_of(group: Group) -> usize
-    requires { ⌜ AcceptedGroup group ⌝ }
-    ensures { λ r. ⌜ r ≡ modulus (generatorsOf group) ⌝ }
-{
-    let targets = group.targets;
-    let orders = group.orders;
-    elements::index::phase_modulus(&targets, &orders, group.generators, group.sites)
 }

@@ -6,6 +6,7 @@
 // a refusal passes for nothing.
 mod index;
 pub mod inner;
+pub mod lent;
 mod make;
 
 ghost use mathlib.Core.Path.{_≡_};
@@ -20,12 +21,13 @@ use pauli_word::MAX_SITES;
 use permutation::MAX_GENERATORS;
 use permutation::TARGET_PLACES;
 
-// A group by its generators: generator g's targets stand at MAX_SITES * g, unused places are 0. Each call that takes one tests it first (14).
+// A group by its generators: generator g's targets stand at MAX_SITES * g, 16 bits each, unused places are 0. Each call that takes one tests it
+// first (14). The value is large: `lent` has each call for a group whose parts are lent.
 pub struct Group {
     pub sites: usize,
     pub generators: usize,
     pub orders: [u32; MAX_GENERATORS],
-    pub targets: [u32; TARGET_PLACES],
+    pub targets: [u16; TARGET_PLACES],
 }
 
 // The group stands beside the answer; beside a refusal stands a value that every call refuses.
@@ -91,20 +93,14 @@ pub fn torus_3d(lx: usize, ly: usize, lz: usize) -> Made
 pub fn order(group: Group) -> Number
     ensures answer { λ r. ⌜ outcomeOfNumber r ≡ orderOutcome group ⌝ }
 {
-    match inner::value_checked(group) {
-        Verdict::Refused(why) => Number::Refused(why),
-        Verdict::Accepted => Number::Value(inner::order_of(group)),
-    }
+    lent::order(&group.targets, &group.orders, group.generators, group.sites)
 }
 
 // The phase modulus: the least common multiple of the orders.
 pub fn phase_modulus(group: Group) -> Number
     ensures answer { λ r. ⌜ outcomeOfNumber r ≡ modulusOutcome group ⌝ }
 {
-    match inner::value_checked(group) {
-        Verdict::Refused(why) => Number::Refused(why),
-        Verdict::Accepted => Number::Value(inner::modulus_of(group)),
-    }
+    lent::phase_modulus(&group.targets, &group.orders, group.generators, group.sites)
 }
 
 // The digits of an index, generator 0 first, into a list with a place for each generator.
@@ -112,18 +108,25 @@ pub fn counter_from_index(group: Group, index: usize, counter: &mut [u32]) -> Ve
     ensures answer { λ r. ⌜ outcomeOfVerdict r ≡ onAnswer done (counterOutcome group index (length (now (counter .entry)))) ⌝ }
     ensures counter { λ _. ⌜ now (counter .exit) ≡ orElse itself (now (counter .entry)) (counterOutcome group index (length (now (counter .entry)))) ⌝ }
 {
-    match inner::value_checked(group) {
-        Verdict::Refused(why) => Verdict::Refused(why),
-        Verdict::Accepted => index::counter_of(group, index, counter),
-    }
+    lent::counter_from_index(
+        &group.targets,
+        &group.orders,
+        group.generators,
+        group.sites,
+        index,
+        counter,
+    )
 }
 
 // The index of the inverse element.
 pub fn invert_index(group: Group, index: usize) -> Number
     ensures answer { λ r. ⌜ outcomeOfNumber r ≡ invertOutcome group index ⌝ }
 {
-    match inner::value_checked(group) {
-        Verdict::Refused(why) => Number::Refused(why),
-        Verdict::Accepted => index::inverse_of(group, index),
-    }
+    lent::invert_index(
+        &group.targets,
+        &group.orders,
+        group.generators,
+        group.sites,
+        index,
+    )
 }

@@ -34,7 +34,7 @@ pub fn made(sites: usize, list: &[u32], orders: &[u32], count: usize) -> Made
     ensures answer { λ r. ⌜ outcomeOfVerdict (r .answer) ≡ onAnswer done (tryFromOutcome sites (now (list .entry)) (now (orders .entry))) ⌝ }
     ensures group { λ r. ⌜ r .group ≡ orElse itself noGroup (tryFromOutcome sites (now (list .entry)) (now (orders .entry))) ⌝ }
 {
-    let mut targets = [0u32; TARGET_PLACES];
+    let mut targets = [0u16; TARGET_PLACES];
     if let Verdict::Refused(why) = generators::list::fill_targets(list, sites, &mut targets) {
         return refused(why);
     }
@@ -69,7 +69,7 @@ pub fn lattice(a: usize, b: usize, c: usize, axes: usize) -> Made
         Number::Refused(why) => refused(why),
         Number::Value(sites) => {
             let sides = [a, b, c];
-            let mut targets = [0u32; TARGET_PLACES];
+            let mut targets = [0u16; TARGET_PLACES];
             let mut orders = [0u32; MAX_GENERATORS];
             generators::lattice::fill_shifts(&sides[0..axes], sites, &mut targets, &mut orders);
             Made {

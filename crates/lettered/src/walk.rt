@@ -32,7 +32,7 @@ pub struct Lead {
 
 // The walk's step from the entry of an index to the next, on its codes; spare is room for as many.
 pub fn advance(
-    targets: &[u32],
+    targets: &[u16],
     orders: &[u32],
     generators: usize,
     sites: usize,
@@ -84,7 +84,7 @@ pub fn take_codes(here: &[u8], i: usize, best: &mut [u8], index: usize, ties: us
 
 // As `least_by_letters`, in room for the codes of as many sites: of the entry at hand, of the best so far, and to spare.
 pub fn least_in_room(
-    targets: &[u32],
+    targets: &[u16],
     orders: &[u32],
     generators: usize,
     sites: usize,
@@ -125,7 +125,7 @@ pub fn least_in_room(
 
 // The least word of the orbit, by walking it whole, the smallest index that reaches it, and how many indices do: as many as fix the word.
 pub fn least_by_letters(
-    targets: &[u32],
+    targets: &[u16],
     orders: &[u32],
     generators: usize,
     sites: usize,

@@ -34,6 +34,10 @@ pub fn number(n: usize) {
     io::print_decimal(STDOUT_FILENO, n as u64);
 }
 
+pub fn number16(n: u16) {
+    number(n as usize);
+}
+
 pub fn number32(n: u32) {
     number(n as usize);
 }

@@ -19,11 +19,20 @@ pub fn digits(list: &[u32]) {
     }
 }
 
-// The k digits from a place on, where the list has them.
-pub fn digits_from(list: &[u32], at: usize, k: usize) {
+pub fn targets(list: &[u16]) {
+    let mut i = 0;
+    while i < list.len() {
+        crate::byte(b' ');
+        crate::number16(list[i]);
+        i += 1;
+    }
+}
+
+// The k targets from a place on, where the list has them.
+pub fn targets_from(list: &[u16], at: usize, k: usize) {
     if at <= list.len() {
         if k <= list.len() - at {
-            digits(&list[at..at + k]);
+            targets(&list[at..at + k]);
         }
     }
 }

@@ -1,4 +1,4 @@
--- The bridge from words to bytes: folding the bytes of representatives, as the code does, is folding the representatives.
+-- The bridge from words to bytes: folding the bytes of representatives, as the code does, is folding the representatives. The words are in full.
 -- The fact that carries it: words of one length are ordered as their bytes are (`less-bytes`), and rows folded by renamed keys are the renamed rows.
 use Prim.Native.Nat.{ℕ, zero, suc, _-_, _≤_, _<_}
 use mathlib.Core.Path.{_≡_, refl, sym, ap, ap₂, _∙_}
@@ -21,7 +21,7 @@ use Rattle.action.proofs.Canonical.{least-length}
 use Rattle.elements.specs.HeldGroup.{encodeAll}
 use Rattle.elements.proofs.Orbits.{below-next}
 use Rattle.group.specs.declared.Group.{Group}
-use Rattle.group.specs.Value.{AcceptedGroup}
+use Rattle.group.specs.Value.{generatorsOf, AcceptedGroup}
 use Rattle.group.proofs.MadeGroups.{held-valid}
 use Rattle.keyed.specs.Keyed.{keyOf, renamed, tableOf, firstFailing}
 use Rattle.keyed.proofs.Tables.{getD-map, table-renamed, running-renamed}
@@ -33,7 +33,7 @@ use Rattle.sum_rows.specs.declared.row_sum.RowSum.{RowSum}
 use Rattle.sum_rows.specs.Sums.{finiteSum, overflow, foldOutcome, handedBack}
 use Rattle.sum_rows.specs.Sums as Sums
 use Rattle.sum_rows.specs.Rows.{byteSums}
-use Rattle.merge.specs.Calls.{representative, representativeRows, wordSums, foldedSum, representativesOf}
+use Rattle.merge.specs.Calls.{representative, representativeRows, wordSums, foldedSum, leastRows}
 
 -- ---- rows
 
@@ -69,8 +69,8 @@ contents words [] = refl
 contents words (c ∷ cs) = ap (λ (l : List Float). c ∷ l) (contents (drop wordLength words) cs)
 
 module _ (g : Group) (words : List ℕ) (cs : List Float) where
-  pub representatives-keys : representativesOf g words (length cs) ≡ map keyOf (representativeRows g (rowsIn words cs))
-  unfolding representativesOf representativeRows
+  pub representatives-keys : leastRows (generatorsOf g) (g .sites) words (length cs) ≡ map keyOf (representativeRows g (rowsIn words cs))
+  unfolding leastRows representativeRows
   representatives-keys =
       sym (map-map (λ row. representative g (row .0)) (rowOf words cs) (below (length cs)))
       ∙ ap (map (λ row. representative g (row .0))) (sym (rows-below words cs))
@@ -81,7 +81,7 @@ module _ (g : Group) (words : List ℕ) (cs : List Float) where
   representatives-contents = map-map (λ row. row .1) (renamed (representative g)) (rowsIn words cs) ∙ contents words cs
 
   pub rows-representatives :
-      rowsIn (encodeAll (representativesOf g words (length cs))) cs ≡ map (renamed bytesOf) (representativeRows g (rowsIn words cs))
+      rowsIn (encodeAll (leastRows (generatorsOf g) (g .sites) words (length cs))) cs ≡ map (renamed bytesOf) (representativeRows g (rowsIn words cs))
   rows-representatives =
       ap₂ (λ (ws : List Word) (ds : List Float). rowsIn (encodeAll ws) ds) representatives-keys (sym representatives-contents)
       ∙ rows-encoded (representativeRows g (rowsIn words cs))
@@ -100,7 +100,7 @@ module _ (g : Group) (words : List ℕ) (cs : List Float) where
   -- a representative is that of some row
   pub representative-of : (w : Word) → Member w (map keyOf (representativeRows g (rowsIn words cs)))
       → (i : ℕ) × (i < length cs) × (w ≡ representative g (rowAt words i))
-  unfolding representativesOf
+  unfolding leastRows
   representative-of w m =
       let (i, n, e) = of-member-map (λ i. representative g (rowAt words i)) (below (length cs)) w (rw (← representatives-keys) at m) in
       (i, of-member-below (length cs) i n, e)
@@ -130,7 +130,7 @@ module _ (n : ℕ) (few : n ≤ maxSites) (rows : List (Word × Float)) (long : 
 
 pub fold-representatives :
     (g : Group) (words : List ℕ) (cs : List Float) → AcceptedGroup g → AcceptedRows (g .sites) words (length cs)
-    → foldOutcome byteSums (rowsIn (encodeAll (representativesOf g words (length cs))) cs)
+    → foldOutcome byteSums (rowsIn (encodeAll (leastRows (generatorsOf g) (g .sites) words (length cs))) cs)
     ≡ onAnswer (map (renamed bytesOf)) (foldedSum g words cs)
 unfolding foldedSum
 fold-representatives g words cs group rows =

@@ -1,4 +1,4 @@
--- What a folded sum's table holds, key by key, and where a fold that overflows does so first.
+-- What a folded sum's table holds, key by key, and where a fold that overflows does so first. The words are in full.
 -- The fact that carries it: what a word comes to is the fold of the coefficients of its rows (`table-value`), of which the table has each word once.
 use Prim.Native.Nat.{ℕ, suc, _<_}
 use mathlib.Core.Path.{_≡_, refl, sym, ap, _∙_}

@@ -1,5 +1,4 @@
 -- Laws of sums folded onto representatives.
-pub mod RowParts
 pub mod SumChecks
 pub mod FoldedRows
 pub mod SumCalls

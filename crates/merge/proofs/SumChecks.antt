@@ -1,8 +1,8 @@
 -- The checks of a sum, rule by rule, and what a pass has shown. No check is by 25.
 -- What carries it: the value's checks come first, and then those of the lists (`ListChecks` of row_lists).
-use Prim.Native.Nat.{ℕ, suc, _<_, _≤_}
+use Prim.Native.Nat.{ℕ, suc, _≤_}
 use mathlib.Core.Logic.{inl, inr}
-use mathlib.Core.Path.{_≡_, sym, ap, _∙_}
+use mathlib.Core.Path.{_≡_, refl, sym, ap, _∙_}
 use mathlib.Core.Bool.{Bool, true, false, cond}
 use mathlib.Core.List.{List, [], _∷_, map}
 use native.Mathlib.Omega.{arith}
@@ -17,9 +17,9 @@ use Rattle.pauli_word.specs.Bytes.{Bytes}
 use Rattle.action.specs.Lists.{Member}
 use Rattle.group.specs.declared.Group.{Group}
 use Rattle.group.specs.Calls.{valueChecks}
-use Rattle.row_lists.specs.Rows.{rowsIn}
+use Rattle.row_lists.specs.Rows.{rowSize, rowsIn, rowsInFull}
 use Rattle.row_lists.specs.Checks.{rowChecks, listChecks, AcceptedRows}
-use Rattle.row_lists.proofs.ListChecks.{Agreeing, given-answered, lists-fine, accepted-rows}
+use Rattle.row_lists.proofs.ListChecks.{Agreeing, agreed-size, given-answered, lists-fine, accepted-rows}
 use Rattle.sum_rows.specs.Sums.{finite}
 use Rattle.merge.specs.Calls.{notFinite, sumChecks}
 
@@ -52,13 +52,14 @@ module _ (g : Group) (words : List ℕ) (cs : List Float) (a b c : ℕ) where
     pub passed-value : verdict (valueChecks g) ≡ answer tt
     passed-value = parted .0
 
-    pub passed-lengths : Agreeing (length words) (length cs) a b c
+    pub passed-lengths : Agreeing (g .sites) (length words) (length cs) a b c
     passed-lengths = lists-fine notFinite (g .sites) words cs a b c (parted .1) .0
 
-    pub passed-rows : g .sites ≤ maxSites → Bytes words → AcceptedRows (g .sites) words (length cs)
+    pub passed-rows : g .sites ≤ maxSites → Bytes words → AcceptedRows (g .sites) (rowsInFull (length cs) words) (length cs)
     passed-rows short small =
         let rows = lists-fine notFinite (g .sites) words cs a b c (parted .1) .1 in
-        accepted-rows notFinite nan (g .sites) words cs rows short small (passed-lengths .wordsLong) (passed-lengths .few)
+        let (either, long) = agreed-size passed-lengths refl in
+        accepted-rows notFinite nan (g .sites) (rowSize (length words) (length cs)) words cs either long rows short small (passed-lengths .few)
 
 -- ---- no check is by 25
 
@@ -77,18 +78,19 @@ verdict-number (c ∷ checks) k vs e = go (c .broken) (verdict-number checks k v
     go true later f = inl (sym (ap numberIn f))
     go false later f = inr (later f)
 
-row-numbers : (n i : ℕ) (rows : List (List ℕ × Float)) (k : ℕ) → Member k (map (λ (c : Check). c .number) (rowChecks notFinite n i rows)) → k < 25
-row-numbers n i [] k m = absurd m
-row-numbers n i (row ∷ rows) k (inl e) = omega arith
-row-numbers n i (row ∷ rows) k (inr (inl e)) = omega arith
-row-numbers n i (row ∷ rows) k (inr (inr m)) = row-numbers n (suc i) rows k m
+rows-not-25 : (n i : ℕ) (rows : List (List ℕ × Float)) → Member 25 (map (λ (c : Check). c .number) (rowChecks notFinite n i rows)) → ⊥
+rows-not-25 n i [] m = m
+rows-not-25 n i (row ∷ rows) (inl e) = omega arith
+rows-not-25 n i (row ∷ rows) (inr (inl e)) = omega arith
+rows-not-25 n i (row ∷ rows) (inr (inr m)) = rows-not-25 n (suc i) rows m
 
-pub checks-before-25 : (g : Group) (words : List ℕ) (cs : List Float) (a b c k : ℕ) (vs : List ℕ) → verdict (sumChecks g words cs a b c) ≡ refused k vs → k < 25
-checks-before-25 g words cs a b c k vs e = go (verdict-number (sumChecks g words cs a b c) k vs e)
+pub checks-not-25 : (g : Group) (words : List ℕ) (cs : List Float) (a b c : ℕ) (vs : List ℕ) → verdict (sumChecks g words cs a b c) ≡ refused 25 vs → ⊥
+checks-not-25 g words cs a b c vs e = go (verdict-number (sumChecks g words cs a b c) 25 vs e)
   where
-    go : Member k (map (λ (d : Check). d .number) (sumChecks g words cs a b c)) → k < 25
+    go : Member 25 (map (λ (d : Check). d .number) (sumChecks g words cs a b c)) → ⊥
     go (inl f) = omega arith
     go (inr (inl f)) = omega arith
     go (inr (inr (inl f))) = omega arith
     go (inr (inr (inr (inl f)))) = omega arith
-    go (inr (inr (inr (inr m)))) = row-numbers (g .sites) 0 (rowsIn words cs) k m
+    go (inr (inr (inr (inr (inl f))))) = omega arith
+    go (inr (inr (inr (inr (inr m))))) = rows-not-25 (g .sites) 0 (rowsIn (rowsInFull (length cs) words) cs) m

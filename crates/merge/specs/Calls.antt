@@ -10,18 +10,19 @@ use Rattle.outcome.specs.Outcome.{Outcome, Check, rule, verdict, unless, orElse
 use Rattle.pauli_word.specs.Word.{Word, less, same}
 use Rattle.pauli_word.specs.Bytes.{lettersIn, bytesOf}
 use Rattle.action.specs.Lists.{below}
+use Rattle.action.specs.Permutation.{Generator}
 use Rattle.action.specs.Orbit.{least}
 use Rattle.group.specs.declared.Group.{Group}
 use Rattle.group.specs.Value.{generatorsOf}
 use Rattle.group.specs.Calls.{valueChecks}
 use Rattle.keyed.specs.Keyed.{Fold, renamed}
-use Rattle.row_lists.specs.Rows.{rowAt, rowsIn}
+use Rattle.row_lists.specs.Rows.{rowAt, rowsIn, rowsInFull}
 use Rattle.row_lists.specs.Checks.{listChecks}
 use Rattle.row_words.specs.Words.{wordsFilled}
 use Rattle.sum_rows.specs.declared.row_sum.RowSum.{RowSum}
 use Rattle.sum_rows.specs.Sums.{finite, sumsBy, foldOutcome, sumsFilled, countsFilled, handedBack}
 
--- ---- the checks: 1, 14, 22, 23, and then the rows in order, each for 17 and 24
+-- ---- the checks: 1, 14, 22, 23, 36, and then the rows in order, each for 17 and 24
 
 -- 24 of row i: a coefficient not finite
 abbrev pub notFinite : ℕ → Float → Check
@@ -33,7 +34,7 @@ sumChecks g words cs representatives sums counts = valueChecks g ++ listChecks n
 
 -- ---- the sum
 
--- the representative of a stored word: the least of its orbit
+-- the representative of a word in full: the least of its orbit
 abbrev pub representative : Group → List ℕ → Word
 representative g bytes = least (generatorsOf g) (lettersIn (g .sites) bytes)
 
@@ -45,7 +46,7 @@ representativeRows g rows = map (renamed (representative g)) rows
 abbrev pub wordSums : Fold Word Float RowSum
 wordSums = sumsBy less same
 
--- 25, or each representative of the rows once, in rising order, with its sum and how many rows it has
+-- 25, or each representative of the rows, whose words are in full, once, in rising order, with its sum and how many rows it has
 unfoldable pub foldedSum : Group → List ℕ → List Float → Outcome (List (Word × RowSum))
 unfolding representativeRows foldOutcome rowsIn
 foldedSum g words cs = foldOutcome wordSums (representativeRows g (rowsIn words cs))
@@ -53,7 +54,7 @@ foldedSum g words cs = foldOutcome wordSums (representativeRows g (rowsIn words 
 unfoldable pub sumOutcome : Group → List ℕ → List Float → List ℕ → List Float → List ℕ → Outcome (List (Word × RowSum))
 unfolding foldedSum
 sumOutcome g words cs representatives sums counts =
-    unless (sumChecks g words cs (length representatives) (length sums) (length counts)) (foldedSum g words cs)
+    unless (sumChecks g words cs (length representatives) (length sums) (length counts)) (foldedSum g (rowsInFull (length cs) words) cs)
 
 -- ---- the output lists afterwards: as they were on a refusal by the checks; else the rows that are handed back, and zeros after them
 
@@ -64,22 +65,22 @@ unfoldable pub wordsAfter : Group → List ℕ → List Float → List ℕ → L
 unfolding foldedSum
 wordsAfter g words cs representatives sums counts =
     afterChecks g words cs (length representatives) (length sums) (length counts) representatives
-    (wordsFilled (length cs) (map (renamed bytesOf) (handedBack (foldedSum g words cs))))
+    (wordsFilled (length cs) (map (renamed bytesOf) (handedBack (foldedSum g (rowsInFull (length cs) words) cs))))
 
 unfoldable pub sumsAfter : Group → List ℕ → List Float → List ℕ → List Float → List ℕ → List Float
 unfolding foldedSum
 sumsAfter g words cs representatives sums counts =
     afterChecks g words cs (length representatives) (length sums) (length counts) sums
-    (sumsFilled (length cs) (handedBack (foldedSum g words cs)))
+    (sumsFilled (length cs) (handedBack (foldedSum g (rowsInFull (length cs) words) cs)))
 
 unfoldable pub countsAfter : Group → List ℕ → List Float → List ℕ → List Float → List ℕ → List ℕ
 unfolding foldedSum
 countsAfter g words cs representatives sums counts =
     afterChecks g words cs (length representatives) (length sums) (length counts) counts
-    (countsFilled (length cs) (handedBack (foldedSum g words cs)))
+    (countsFilled (length cs) (handedBack (foldedSum g (rowsInFull (length cs) words) cs)))
 
 -- ---- what the code's parts say
 
--- the representatives of the first k rows
-unfoldable pub representativesOf : Group → List ℕ → ℕ → List Word
-representativesOf g words k = map (λ i. representative g (rowAt words i)) (below k)
+-- the least words of the orbits of the first k rows
+unfoldable pub leastRows : List Generator → ℕ → List ℕ → ℕ → List Word
+leastRows gs n words k = map (λ i. least gs (lettersIn n (rowAt words i))) (below k)

@@ -1,4 +1,5 @@
--- What is promised of a folded sum: which rows it has, how many input rows each counts and what they come to; and what a refusal by 25 says.
+-- What is promised of a folded sum: which rows it has, how many input rows each counts and what they come to; and what a refusal by 25 says. The
+-- words here are in full. Then, when two sums are answered alike.
 use Prim.Native.Nat.{ℕ, suc, _<_}
 use mathlib.Core.Path.{_≡_}
 use mathlib.Core.Bool.{true, false}
@@ -14,7 +15,7 @@ use Rattle.keyed.specs.Keyed.{Rising, keyOf, contentsOf, leftFold}
 use Rattle.row_lists.specs.Rows.{rowAt, rowsIn}
 use Rattle.sum_rows.specs.declared.row_sum.RowSum.{RowSum}
 use Rattle.sum_rows.specs.Sums.{zero, finite}
-use Rattle.merge.specs.Calls.{representative, representativeRows, wordSums}
+use Rattle.merge.specs.Calls.{representative, representativeRows, wordSums, sumOutcome, wordsAfter, sumsAfter, countsAfter}
 
 -- the rows of the sum, each with its representative
 abbrev pub inputRows : Group → List ℕ → List Float → List (Word × Float)
@@ -50,3 +51,10 @@ pub record OverflowsAt (g : Group) (words : List ℕ) (cs : List Float) (i : ℕ
   pub inside : i < length cs
   pub fails : finite (sumAt g words cs i) ≡ false
   pub first : (j : ℕ) → j < i → finite (sumAt g words cs j) ≡ true
+
+-- a sum of these words and a sum of those are answered alike, and leave the output lists alike
+pub record Alike (g : Group) (words others : List ℕ) (cs : List Float) (representatives : List ℕ) (sums : List Float) (counts : List ℕ) : Type 0 where
+  pub outcome : sumOutcome g words cs representatives sums counts ≡ sumOutcome g others cs representatives sums counts
+  pub wordsLeft : wordsAfter g words cs representatives sums counts ≡ wordsAfter g others cs representatives sums counts
+  pub sumsLeft : sumsAfter g words cs representatives sums counts ≡ sumsAfter g others cs representatives sums counts
+  pub countsLeft : countsAfter g words cs representatives sums counts ≡ countsAfter g others cs representatives sums counts

@@ -3,6 +3,7 @@
 //
 // The call here asks nothing of its caller: bad input is refused by number, and the lent lists are then as they were; beside 25 they are zero.
 mod checks;
+pub mod lent;
 mod rows;
 
 ghost use mathlib.Core.Path.{_≡_};
@@ -11,12 +12,11 @@ ghost use Rattle.outcome.specs.Outcome.{outcomeOfNumber, onAnswer};
 ghost use Rattle.merge.specs.Calls.{sumOutcome, wordsAfter, sumsAfter, countsAfter};
 use group::Group;
 use outcome::Number;
-use outcome::Verdict;
 
-// Folds a sum onto representatives. Row i of the sum is the word in bytes WORD_BYTES times i on of `words`, and coefficient i. The output lists
-// have as many rows; each output row is a representative, the sum of the coefficients of the rows that have it, added to 0.0 in input order, and
-// how many rows these are. Rows stand in rising order of their words, zero sums stay, and zeros come after the last row. It answers how many
-// output rows there are. Each word's orbit is walked once.
+// Folds a sum onto representatives. Row i of the sum is word i of `words`, which all have one form, and coefficient i. The output lists
+// have as many rows, with words in full; each output row is a representative, the sum of the coefficients of the rows that have it, added to
+// 0.0 in input order, and how many rows these are. Rows stand in rising order of their words, zero sums stay, and zeros come after the last
+// row. It answers how many output rows there are. Each word's orbit is walked once.
 pub fn canonicalize_pauli_sum(
     group: Group,
     words: &[u8],
@@ -30,19 +30,15 @@ pub fn canonicalize_pauli_sum(
     ensures sums { λ _. ⌜ now (sums .exit) ≡ sumsAfter group (now (words .entry)) (now (coefficients .entry)) (now (representatives .entry)) (now (sums .entry)) (now (counts .entry)) ⌝ }
     ensures counts { λ _. ⌜ now (counts .exit) ≡ countsAfter group (now (words .entry)) (now (coefficients .entry)) (now (representatives .entry)) (now (sums .entry)) (now (counts .entry)) ⌝ }
 {
-    let checked = checks::sum_checked(
-        group,
+    lent::canonicalize_pauli_sum(
+        &group.targets,
+        &group.orders,
+        group.generators,
+        group.sites,
         words,
         coefficients,
-        representatives.len(),
-        sums.len(),
-        counts.len(),
-    );
-    match checked {
-        Verdict::Refused(why) => Number::Refused(why),
-        Verdict::Accepted => {
-            rows::representatives(group, words, coefficients.len(), representatives);
-            sum_rows::fold::fold_rows(coefficients, representatives, sums, counts)
-        }
-    }
+        representatives,
+        sums,
+        counts,
+    )
 }

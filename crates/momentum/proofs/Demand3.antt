@@ -1,19 +1,21 @@
 -- Demand 3 at the calls: each statement is followed by the law that shows it.
 --
 -- The hypotheses, then the first, the second and the third sentence, then what supports them: 1 What is listed, 2 The decision, 3 Modes of either
--- sign, 4 Numerators, 5 Pairs. The statements are about the definitions of `specs/` of this crate, of group and of action: `withIndexOutcome` is what
+-- sign, 4 Numerators, 5 Pairs, 6 Either form of a word. The statements are about the definitions of `specs/` of this crate, of group and of action: `withIndexOutcome` is what
 -- canonicalize_with_index comes to, `sectorOutcome` what canonicalize_in_sector comes to, and the contract of each call says so of every input.
 use Prim.Native.Nat.{ℕ, _*_, _^_, _<_}
 use mathlib.Core.Path.{_≡_}
 use mathlib.Core.Logic.{_↔_}
-use mathlib.Core.Bool.{true, _&&_}
+use mathlib.Core.Bool.{true, false, _&&_}
 use mathlib.Core.List.{List}
 use native.Mathlib.Omega.{arith}
 use lib.IntN.{ℤ, pos}
 use lib.ListN.{length, getD}
 use Rattle.outcome.specs.Outcome.{answer}
 use Rattle.pauli_word.specs.Word.{Word}
-use Rattle.pauli_word.specs.Bytes.{AcceptedWord, lettersIn}
+use Rattle.pauli_word.specs.Bytes.{AcceptedWord, EitherWord, inFull, bytesOf, wordIn}
+use Rattle.pauli_word.specs.Calls.{pastOld}
+use Rattle.pauli_word.proofs.Forms.{either-accepted, written-full, written-same}
 use Rattle.pauli_word.proofs.Words.{decode-length}
 use Rattle.action.specs.Lists.{Member, NoRepeats, count}
 use Rattle.action.specs.Permutation.{Generator}
@@ -27,7 +29,7 @@ use Rattle.group.specs.declared.Group.{Group}
 use Rattle.group.specs.Value.{GivenBy, generatorsOf}
 use Rattle.orbit.specs.Calls.{withIndexOutcome}
 use Rattle.orbit.specs.Walked.{CanonicalAnswer}
-use Rattle.orbit.proofs.Promises.{canonical-answer}
+use Rattle.orbit.proofs.Promises.{canonical-answer, with-index-either}
 use Rattle.group.proofs.Promises.{given-group}
 use Rattle.momentum.specs.Calls.{numeratorOutcome, numerators, tableOutcome, kept, dropped, Row, decision, sectorOutcome}
 use Rattle.momentum.specs.Counts.{acceptedWords, isOwn, isKept, pairs}
@@ -37,10 +39,12 @@ use Rattle.momentum.proofs.Modes as Modes
 use Rattle.momentum.proofs.GivenGroups as Given
 use Rattle.momentum.proofs.KeptCalls as Kept
 use Rattle.momentum.proofs.Numerators as Numerators
+use Rattle.momentum.proofs.Outcomes as Sectors
 
 -- ---- The hypotheses: g is a group value that generators give which break none of the rules 1 to 13 (`GivenBy`). Its generators are gs, its sites
--- are n. A word is handed over as `bytes`: wordLength of them, with no bit at or above site n (`AcceptedWord`); w bytes are its letters. A mode list ks has a
--- signed number for each generator. `counter` is a list that a call is lent, with a place for each generator
+-- are n. A word is handed over as `bytes` in either form, with no bit at or above site n (`EitherWord`): in full, or, for at most oldSites sites, of the
+-- old form; w bytes are its letters (`wordIn`). A mode list ks has a signed number for each generator. `counter` is a list that a call is lent, with a
+-- place for each generator
 
 module _ (g : Group) where
   abbrev gs : List Generator
@@ -50,7 +54,7 @@ module _ (g : Group) where
   n = g .sites
 
   abbrev w : List ℕ → Word
-  w bytes = lettersIn n bytes
+  w bytes = wordIn n bytes
 
   module _ (given : GivenBy g) where
     -- ---- The first sentence: canonicalize_with_index answers every accepted word, and its answer is the least word of the orbit with an index that
@@ -58,17 +62,18 @@ module _ (g : Group) where
     -- (`inOrbit`), and no word of the orbit is less (`noneLess`); the index is the inverse (`inverted`) of an index below the group order (`below`)
     -- that reaches the word (`reaches`), which no earlier index does (`noneEarlier`); and the index leads from the word back to w bytes (`leadsBack`)
 
-    pub least-word : (bytes : List ℕ) → AcceptedWord n bytes → CanonicalAnswer gs (w bytes) (withIndexOutcome g n bytes)
+    pub least-word : (bytes : List ℕ) → EitherWord n bytes → CanonicalAnswer gs (w bytes) (withIndexOutcome g n bytes)
     least-word = canonical-answer g (given-group g given)
 
     -- ---- The second sentence: of all reduced mode lists, exactly as many make canonicalize_in_sector keep a word as its orbit has different words
 
     pub kept-lists :
-        (bytes : List ℕ) → AcceptedWord n bytes → (counter : List ℕ) → length counter ≡ g .generators
+        (bytes : List ℕ) → EitherWord n bytes → (counter : List ℕ) → length counter ≡ g .generators
         → count (λ ks. isKept (sectorOutcome g n bytes ks (length counter))) (allModes gs) ≡ length (orbit gs (w bytes))
     kept-lists bytes word counter room = Kept.kept-lists g given (length counter) room bytes word
 
-    -- ---- The third sentence: nothing is lost. Take every pair of a reduced mode list and an accepted word. In 4 ^ n of them the word is its own least
+    -- ---- The third sentence: nothing is lost. Take every pair of a reduced mode list and an accepted word, each word once, by its bytes in full. In
+    -- 4 ^ n of them the word is its own least
     -- word, by canonicalize_with_index, and is kept under the modes, by canonicalize_in_sector
 
     pub kept-pairs :
@@ -93,24 +98,24 @@ module _ (g : Group) where
         let (j, e, l) = Modes.listed-below gs (valid-positive (Given.given-valid g given)) ks m k h in
         (j, e, omega (arith, l, Given.given-small g given))
 
-    -- the accepted words
+    -- the accepted words in full
     pub words-all : (bytes : List ℕ) → Member bytes (acceptedWords n) ↔ AcceptedWord n bytes
     words-all = Words.accepted-all n (Given.given-sites g given)
 
     pub words-once : NoRepeats (acceptedWords n)
     words-once = Words.accepted-once n (Given.given-sites g given)
 
-    module _ (bytes : List ℕ) (word : AcceptedWord n bytes) where
+    module _ (bytes : List ℕ) (word : EitherWord n bytes) where
       -- the words that the indices below the group order reach from a word
       pub orbit-all : (u : Word) → (isIn u (orbit gs (w bytes)) ≡ true) ↔ ((i : ℕ) × (i < orderOf gs) × (u ≡ reach gs i (w bytes)))
       orbit-all = Kept.orbit-all gs (w bytes)
 
       pub orbit-once : NoRepeats (orbit gs (w bytes))
-      orbit-once = Action.orbit-once (Given.given-valid g given) (w bytes) (decode-length word)
+      orbit-once = Action.orbit-once (Given.given-valid g given) (w bytes) (decode-length (either-accepted n bytes word))
 
       -- their number is the orbit size, the group order divided by the number of indices that fix the word
       pub size-words : orbitSize gs (w bytes) ≡ length (orbit gs (w bytes))
-      size-words = Action.orbitSize-orbit (Given.given-valid g given) (w bytes) (decode-length word)
+      size-words = Action.orbitSize-orbit (Given.given-valid g given) (w bytes) (decode-length (either-accepted n bytes word))
 
       -- ---- 2 The decision: with a mode and a place of the counter for each generator no accepted word is refused
 
@@ -187,3 +192,20 @@ module _ {A B : Type 0} (xs : List A) (ys : List B) where
 
   pub pairs-once : NoRepeats xs → NoRepeats ys → NoRepeats (pairs xs ys)
   pairs-once = Pairs.noRepeats-pairs xs ys
+
+-- ---- 6 Either form of a word: a word that is read and written again is the same word and is then in full; and a call answers a word of the old form
+-- as it does the word in full with the same letters, also where it is refused. Past the sites of the old form it is refused, 36 (`pastOld`)
+
+module _ (n : ℕ) (bytes : List ℕ) (word : EitherWord n bytes) where
+  pub word-written : bytesOf (wordIn n bytes) ≡ inFull bytes
+  word-written = written-full n bytes word
+
+  pub word-same : wordIn n (bytesOf (wordIn n bytes)) ≡ wordIn n bytes
+  word-same = written-same n bytes word
+
+module _ (g : Group) (m : ℕ) (bytes : List ℕ) (fits : pastOld m (length bytes) ≡ false) where
+  pub index-either : withIndexOutcome g m (inFull bytes) ≡ withIndexOutcome g m bytes
+  index-either = with-index-either g m bytes fits
+
+  pub sector-either : (ks : List ℤ) (k : ℕ) → sectorOutcome g m (inFull bytes) ks k ≡ sectorOutcome g m bytes ks k
+  sector-either = Sectors.sector-full g m bytes fits

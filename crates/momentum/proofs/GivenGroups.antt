@@ -9,12 +9,18 @@ use Rattle.permutation.specs.Limits.{maxOrder}
 use Rattle.elements.proofs.TableRows.{generators-length}
 use Rattle.group.specs.declared.Group.{Group}
 use Rattle.group.specs.Value.{GivenBy, generatorsOf, AcceptedGroup}
-use Rattle.group.proofs.Accepted.{accepted-tables}
+use Rattle.outcome.specs.Outcome.{answer, verdict}
+use Rattle.group.specs.Calls.{valueChecks}
+use Rattle.group.proofs.Accepted.{accepted-tables, value-passes}
 use Rattle.group.proofs.MadeGroups.{made-accepted, held-valid}
 
 module _ (g : Group) (given : GivenBy g) where
   pub given-accepted : AcceptedGroup g
   given-accepted = made-accepted (g .sites) (given .list) (given .orders) g (given .given)
+
+  -- it passes its checks
+  pub given-passes : verdict (valueChecks g) ≡ answer tt
+  given-passes = value-passes g (given-accepted .few) (given-accepted .isOne)
 
   pub given-valid : Valid (g .sites) (generatorsOf g)
   given-valid = held-valid g given-accepted

@@ -4,16 +4,17 @@
 use Prim.Native.Nat.{ℕ, _*_, _^_, _<_}
 use native.Mathlib.Omega.{arith}
 use mathlib.Core.Path.{_≡_, refl, sym, _∙_, ap, ap₂}
-use mathlib.Core.Logic.{_↔_}
+use mathlib.Core.Logic.{_↔_, inl}
 use mathlib.Core.Bool.{Bool, true, false, _&&_, cond}
 use mathlib.Core.List.{List, [], _∷_, _++_}
 use lib.IntN.{ℤ}
 use lib.ListN.{length}
 use Rattle.pauli_word.specs.Limits.{planeLength}
-use Rattle.outcome.specs.Outcome.{answer}
+use Rattle.outcome.specs.Outcome.{answer, verdict}
 use Rattle.pauli_word.specs.Word.{Word}
-use Rattle.pauli_word.specs.Bytes.{AcceptedWord, lettersIn, bytesOf}
+use Rattle.pauli_word.specs.Bytes.{AcceptedWord, EitherWord, bytesOf, wordIn}
 use Rattle.outcome.proofs.Outcomes.{call-answers, unless-answer}
+use Rattle.pauli_word.proofs.Forms.{either-accepted, full-letters}
 use Rattle.pauli_word.proofs.Words.{decode-length, encoded-accepted, encoded-decode}
 use Rattle.action.specs.Lists.{count}
 use Rattle.action.specs.Permutation.{Generator, Valid}
@@ -69,17 +70,23 @@ module _ (g : Group) where
 
     -- ---- an accepted word
 
-    module _ (bytes : List ℕ) (word : AcceptedWord n bytes) where
+    module _ (bytes : List ℕ) (word : EitherWord n bytes) where
       abbrev w : Word
-      w = lettersIn n bytes
+      w = wordIn n bytes
+
+      long : length w ≡ n
+      long = decode-length (either-accepted n bytes word)
+
+      pub passes : verdict (wordCallChecks g n bytes) ≡ answer tt
+      passes = word-call-passes g (given-accepted g given) bytes word
 
       pub index-answer : withIndexOutcome g n bytes ≡ answer (least gs w, indexBack gs w)
       unfolding withIndexOutcome
-      index-answer = call-answers (wordCallChecks g n bytes) _ (word-call-passes g (given-accepted g given) bytes word)
+      index-answer = call-answers (wordCallChecks g n bytes) _ passes
 
       module _ (ks : List ℤ) (modes : length ks ≡ g .generators) (k : ℕ) (room : k ≡ g .generators) where
         pub sector-answer : sectorOutcome g n bytes ks k ≡ answer (decision gs ks w)
-        sector-answer = sector-decision g (given-accepted g given) bytes word ks k modes room
+        sector-answer = sector-decision g n bytes passes ks k modes room
 
         pub kept-keeps : isKept (sectorOutcome g n bytes ks k) ≡ keeps gs ks w
         unfolding decision
@@ -115,24 +122,24 @@ module _ (g : Group) where
       kept-row ks k r e =
           let checks = wordCallChecks g n bytes ++ (modeCount g ks ∷ listLength k (g .generators) ∷ []) in
           let row = row-by (keeps gs ks w) _ r _ (unless-answer checks (decision gs ks w) (kept r) e .1) in
-          let size : r .size ≡ length (orbit gs w) = ap (λ (x : Row). x .size) (sym row) ∙ Action.orbitSize-orbit valid w (decode-length word) in (
+          let size : r .size ≡ length (orbit gs w) = ap (λ (x : Row). x .size) (sym row) ∙ Action.orbitSize-orbit valid w long in (
             index-answer ∙ ap (λ (x : Row). answer (x .word, x .index)) row,
             size,
-            ap (λ (x : ℕ). x * length (fixing gs w)) size ∙ sym (Action.orbit-stabilizer valid w (decode-length word)),
+            ap (λ (x : ℕ). x * length (fixing gs w)) size ∙ sym (Action.orbit-stabilizer valid w long),
           )
 
     -- ---- counts, with a place of the counter for each generator
 
     module _ (k : ℕ) (room : k ≡ g .generators) where
-      count-decides : (bytes : List ℕ) → AcceptedWord n bytes
-          → count (λ ks. isKept (sectorOutcome g n bytes ks k)) (allModes gs) ≡ keptLists (decides gs) gs (lettersIn n bytes)
+      count-decides : (bytes : List ℕ) → EitherWord n bytes
+          → count (λ ks. isKept (sectorOutcome g n bytes ks k)) (allModes gs) ≡ keptLists (decides gs) gs (wordIn n bytes)
       unfolding keptLists
       count-decides bytes word =
           count-cong _ _ (allModes gs) (λ ks m. ap isKept (sector-answer bytes word ks (modes-length gs ks m ∙ given-length g given) k room))
 
-      pub kept-lists : (bytes : List ℕ) → AcceptedWord n bytes
-          → count (λ ks. isKept (sectorOutcome g n bytes ks k)) (allModes gs) ≡ length (orbit gs (lettersIn n bytes))
-      kept-lists bytes word = count-decides bytes word ∙ decided-lists valid (lettersIn n bytes) (decode-length word)
+      pub kept-lists : (bytes : List ℕ) → EitherWord n bytes
+          → count (λ ks. isKept (sectorOutcome g n bytes ks k)) (allModes gs) ≡ length (orbit gs (wordIn n bytes))
+      kept-lists bytes word = count-decides bytes word ∙ decided-lists valid (wordIn n bytes) (long bytes word)
 
       -- whether the calls answer that bytes are their own least word, and that the modes keep it
       abbrev keptOwn : List ℤ → List ℕ → Bool
@@ -143,11 +150,14 @@ module _ (g : Group) where
         abbrev coded : List ℕ
         coded = bytesOf v
 
-        word : AcceptedWord n coded
-        word = encoded-accepted planeLength v letters (given-sites g given) refl
+        full : AcceptedWord n coded
+        full = encoded-accepted planeLength v letters (given-sites g given) refl
 
-        decoded : lettersIn n coded ≡ v
-        decoded = encoded-decode planeLength v letters (given-sites g given) refl
+        word : EitherWord n coded
+        word = inl full
+
+        decoded : wordIn n coded ≡ v
+        decoded = full-letters n coded full ∙ encoded-decode planeLength v letters (given-sites g given) refl
 
         own : isOwn coded (withIndexOutcome g n coded) ≡ isRepresentative gs v
         unfolding isRepresentative

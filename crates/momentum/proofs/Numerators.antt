@@ -19,9 +19,9 @@ use Rattle.group.specs.Calls.{valueChecks, listLength}
 use Rattle.outcome.proofs.Outcomes.{unless-answer}
 use Rattle.momentum.specs.Calls.{modeCount, numeratorOutcome, numerators, tableOutcome, decision, sectorOutcome}
 use Rattle.momentum.proofs.Outcomes as Outcomes
-use Rattle.momentum.proofs.GivenGroups.{given-accepted, given-valid, given-length}
+use Rattle.momentum.proofs.GivenGroups.{given-passes, given-valid, given-length}
 use Rattle.momentum.proofs.Modes.{reducedModes-length, reducedDigits-length, reduced-listed, keeps-reduced, dropped-reduced}
-use Rattle.pauli_word.specs.Bytes.{lettersIn}
+use Rattle.pauli_word.specs.Bytes.{wordIn}
 
 module _ (g : Group) where
   abbrev gs : List Generator
@@ -57,14 +57,14 @@ module _ (g : Group) where
 
     pub sector-reduced : (n : ℕ) (bytes : List ℕ) (k : ℕ) → sectorOutcome g n bytes ks k ≡ sectorOutcome g n bytes (reducedModes gs ks) k
     unfolding sectorOutcome decision
-    sector-reduced n bytes k = rw (same-count, keeps-reduced gs ks (lettersIn n bytes), dropped-reduced gs ks (lettersIn n bytes))
+    sector-reduced n bytes k = rw (same-count, keeps-reduced gs ks (wordIn n bytes), dropped-reduced gs ks (wordIn n bytes))
 
     pub table-answer : (k : ℕ) → k ≡ orderOf gs → tableOutcome g ks k ≡ answer (numerators gs ks)
-    table-answer = Outcomes.table-answer g (given-accepted g given) ks modes
+    table-answer = Outcomes.table-answer g (given-passes g given) ks modes
 
     module _ (cs : List ℕ) (counted : length cs ≡ g .generators) where
       pub numerator-answer : numeratorOutcome g ks cs ≡ answer (numerator gs ks cs)
-      numerator-answer = Outcomes.numerator-answer g (given-accepted g given) ks modes cs counted
+      numerator-answer = Outcomes.numerator-answer g (given-passes g given) ks modes cs counted
 
       same-digits : length (reducedDigits gs cs) ≡ length cs
       same-digits = reducedDigits-length gs cs (counted ∙ sym (given-length g given)) ∙ given-length g given ∙ sym counted

@@ -19,7 +19,7 @@ use Rattle.orbit.specs.Calls.{wordCallChecks, noWord}
 use Rattle.group.specs.Calls.{valueChecks, listLength}
 use Rattle.momentum.specs.declared.Sector.{Sector}
 use Rattle.momentum.specs.declared.Sector.the-variants as Sector
-use Rattle.pauli_word.specs.Bytes.{lettersIn, bytesOf}
+use Rattle.pauli_word.specs.Bytes.{bytesOf, wordIn}
 
 -- 18: mode count is not the generator count
 abbrev pub modeCount : Group → List ℤ → Check
@@ -43,7 +43,7 @@ unfoldable pub tableOutcome : Group → List ℤ → ℕ → Outcome (List ℕ)
 tableOutcome g ks k =
     unless (valueChecks g ++ (modeCount g ks ∷ listLength k (orderOf (generatorsOf g)) ∷ [])) (answer (numerators (generatorsOf g) ks))
 
--- ---- canonicalize_in_sector: 1, 14, 15, 16, 17, 18, 21, then the decision; k is the length of the counter list
+-- ---- canonicalize_in_sector: 1, 14, 15, 36, 16, 17, 18, 21, then the decision; k is the length of the counter list
 
 -- whether modes keep a word, with what goes with a kept one, and the index that drops a dropped one
 pub data Decision (A : Type 0) : Type 0 where
@@ -64,7 +64,7 @@ decision gs ks w =
 unfoldable pub sectorOutcome : Group → ℕ → List ℕ → List ℤ → ℕ → Outcome (Decision Row)
 sectorOutcome g n bytes ks k =
     unless (wordCallChecks g n bytes ++ (modeCount g ks ∷ listLength k (g .generators) ∷ []))
-    (answer (decision (generatorsOf g) ks (lettersIn n bytes)))
+    (answer (decision (generatorsOf g) ks (wordIn n bytes)))
 
 -- `Kept` carries the orbit size, `Dropped` the index that drops the word
 abbrev pub outcomeOfSector : Sector → Outcome (Decision ℕ)

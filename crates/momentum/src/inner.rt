@@ -4,12 +4,11 @@ ghost use lib.ListN.{length};
 ghost use Rattle.pauli_word.specs.Bytes.{AcceptedWord, lettersIn};
 ghost use Rattle.action.specs.Index.{digits};
 ghost use Rattle.action.specs.Sector.{numerator};
-ghost use Rattle.group.specs.Value.{generatorsOf, AcceptedGroup};
+ghost use Rattle.elements.specs.HeldGroup.{generatorsIn, Tables};
 ghost use Rattle.momentum.specs.Calls.{rowWord, decision};
 ghost use Rattle.momentum.specs.Parts.{placementOf, indexIn};
 use crate::phase;
 use crate::stabilizer;
-use group::Group;
 use pauli_word::WORD_BYTES;
 
 // What modes make of a word, by numbers.
@@ -38,23 +37,28 @@ pub struct Placed {
     pub word: [u8; WORD_BYTES],
 }
 
-// The decision for an accepted group and word and a mode for each generator.
-pub fn placement_of(group: Group, word: &[u8], modes: &[i32]) -> Placed
-    requires { ⌜ AcceptedGroup group ⌝ }
-    requires { ⌜ AcceptedWord (group .sites) (now word) ⌝ }
-    requires { ⌜ length (now modes) ≡ group .generators ⌝ }
-    ensures answer { λ r. ⌜ r .answer ≡ placementOf (decision (generatorsOf group) (now (modes .entry)) (lettersIn (group .sites) (now (word .entry)))) ⌝ }
-    ensures word { λ r. ⌜ r .word ≡ rowWord (decision (generatorsOf group) (now (modes .entry)) (lettersIn (group .sites) (now (word .entry)))) ⌝ }
+// The decision for the group that tables hold, an accepted word and a mode for each generator.
+pub fn placement_of(
+    targets: &[u16],
+    orders: &[u32],
+    generators: usize,
+    sites: usize,
+    word: &[u8],
+    modes: &[i32],
+) -> Placed
+    requires { ⌜ Tables generators sites (now targets) (now orders) ⌝ }
+    requires { ⌜ AcceptedWord sites (now word) ⌝ }
+    requires { ⌜ length (now modes) ≡ generators ⌝ }
+    ensures answer { λ r. ⌜ r .answer ≡ placementOf (decision (generatorsIn generators sites (now (targets .entry)) (now (orders .entry))) (now (modes .entry)) (lettersIn sites (now (word .entry)))) ⌝ }
+    ensures word { λ r. ⌜ r .word ≡ rowWord (decision (generatorsIn generators sites (now (targets .entry)) (now (orders .entry))) (now (modes .entry)) (lettersIn sites (now (word .entry)))) ⌝ }
 {
-    let order = group::inner::order_of(group);
-    let modulus = group::inner::modulus_of(group);
-    let targets = group.targets;
-    let orders = group.orders;
+    let order = elements::index::order(targets, orders, generators, sites);
+    let modulus = elements::index::phase_modulus(targets, orders, generators, sites);
     stabilizer::placed(
-        &targets,
-        &orders,
-        group.generators,
-        group.sites,
+        targets,
+        orders,
+        generators,
+        sites,
         order,
         modulus,
         modes,
@@ -62,22 +66,19 @@ pub fn placement_of(group: Group, word: &[u8], modes: &[i32]) -> Placed
     )
 }
 
-// The numerator of an index, for an accepted group and a mode for each generator.
-pub fn numerator_at(group: Group, modes: &[i32], index: usize) -> usize
-    requires { ⌜ AcceptedGroup group ⌝ }
-    requires { ⌜ length (now modes) ≡ group .generators ⌝ }
-    ensures { λ r. ⌜ r ≡ numerator (generatorsOf group) (now (modes .entry)) (digits (generatorsOf group) index) ⌝ }
+// The numerator of an index, for the group that tables hold and a mode for each generator.
+pub fn numerator_at(
+    targets: &[u16],
+    orders: &[u32],
+    generators: usize,
+    sites: usize,
+    modes: &[i32],
+    index: usize,
+) -> usize
+    requires { ⌜ Tables generators sites (now targets) (now orders) ⌝ }
+    requires { ⌜ length (now modes) ≡ generators ⌝ }
+    ensures { λ r. ⌜ r ≡ numerator (generatorsIn generators sites (now (targets .entry)) (now (orders .entry))) (now (modes .entry)) (digits (generatorsIn generators sites (now (targets .entry)) (now (orders .entry))) index) ⌝ }
 {
-    let modulus = group::inner::modulus_of(group);
-    let targets = group.targets;
-    let orders = group.orders;
-    phase::numerator_at(
-        &targets,
-        &orders,
-        group.generators,
-        group.sites,
-        modulus,
-        modes,
-        index,
-    )
+    let modulus = elements::index::phase_modulus(targets, orders, generators, sites);
+    phase::numerator_at(targets, orders, generators, sites, modulus, modes, index)
 }

@@ -5,6 +5,7 @@
 // a refusal passes for nothing.
 mod calls;
 pub mod inner;
+pub mod lent;
 mod phase;
 mod stabilizer;
 
@@ -40,10 +41,14 @@ pub struct InSector {
 pub fn character_numerator(group: Group, modes: &[i32], counter: &[u32]) -> Number
     ensures answer { λ r. ⌜ outcomeOfNumber r ≡ numeratorOutcome group (now (modes .entry)) (now (counter .entry)) ⌝ }
 {
-    match group::inner::value_checked(group) {
-        Verdict::Refused(why) => Number::Refused(why),
-        Verdict::Accepted => calls::numerator_of(group, modes, counter),
-    }
+    lent::character_numerator(
+        &group.targets,
+        &group.orders,
+        group.generators,
+        group.sites,
+        modes,
+        counter,
+    )
 }
 
 // The numerators of all indices, generator 0 fastest, into a list with an entry for each.
@@ -51,10 +56,14 @@ pub fn character_table(group: Group, modes: &[i32], list: &mut [usize]) -> Verdi
     ensures answer { λ r. ⌜ outcomeOfVerdict r ≡ onAnswer done (tableOutcome group (now (modes .entry)) (length (now (list .entry)))) ⌝ }
     ensures list { λ _. ⌜ now (list .exit) ≡ orElse itself (now (list .entry)) (tableOutcome group (now (modes .entry)) (length (now (list .entry)))) ⌝ }
 {
-    match group::inner::value_checked(group) {
-        Verdict::Refused(why) => Verdict::Refused(why),
-        Verdict::Accepted => calls::table_of(group, modes, list),
-    }
+    lent::character_table(
+        &group.targets,
+        &group.orders,
+        group.generators,
+        group.sites,
+        modes,
+        list,
+    )
 }
 
 // Whether modes keep a word: dropped exactly if some index that fixes it has a numerator other than 0. A kept word comes with the least word of
@@ -72,8 +81,14 @@ pub fn canonicalize_in_sector(
     ensures word { λ r. ⌜ r .word ≡ orElse rowWord noWord (sectorOutcome group n (now (word .entry)) (now (modes .entry)) (length (now (counter .entry)))) ⌝ }
     ensures counter { λ _. ⌜ now (counter .exit) ≡ orElse (rowCounter (generatorsOf group) (now (counter .entry))) (now (counter .entry)) (sectorOutcome group n (now (word .entry)) (now (modes .entry)) (length (now (counter .entry)))) ⌝ }
 {
-    match orbit::inner::word_call_checked(group, n, word) {
-        Verdict::Refused(why) => calls::no_row(Sector::Refused(why)),
-        Verdict::Accepted => calls::sector_of(group, word, modes, counter),
-    }
+    lent::canonicalize_in_sector(
+        &group.targets,
+        &group.orders,
+        group.generators,
+        group.sites,
+        n,
+        word,
+        modes,
+        counter,
+    )
 }

@@ -31,7 +31,7 @@ pub fn phase(mode: i32, digit: u32, order: u32, modulus: u64) -> u64
 
 // The numerator of a counter.
 pub fn numerator(
-    targets: &[u32],
+    targets: &[u16],
     orders: &[u32],
     generators: usize,
     sites: usize,
@@ -56,7 +56,7 @@ pub fn numerator(
 
 // The numerator of an index.
 pub fn numerator_at(
-    targets: &[u32],
+    targets: &[u16],
     orders: &[u32],
     generators: usize,
     sites: usize,
@@ -84,7 +84,7 @@ pub fn numerator_at(
 
 // Whether the character of an index is 1.
 pub fn trivial(
-    targets: &[u32],
+    targets: &[u16],
     orders: &[u32],
     generators: usize,
     sites: usize,
@@ -102,7 +102,7 @@ pub fn trivial(
 
 // The numerators of all indices below the order.
 pub fn fill_table(
-    targets: &[u32],
+    targets: &[u16],
     orders: &[u32],
     generators: usize,
     sites: usize,

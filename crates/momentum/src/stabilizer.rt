@@ -34,7 +34,7 @@ pub enum Test {
 
 // What an index does to a word, by the word that it reaches.
 pub fn tested(
-    targets: &[u32],
+    targets: &[u16],
     orders: &[u32],
     generators: usize,
     sites: usize,
@@ -74,7 +74,7 @@ pub fn dropped(index: usize) -> Placed
 // One traversal of the group, with phase modulus m: it stops at the first fixing index with a numerator other than 0, which it gives, and else gives
 // the least word, the index that leads back from it and the orbit size.
 pub fn canonicalize_with_stabilizer(
-    targets: &[u32],
+    targets: &[u16],
     orders: &[u32],
     generators: usize,
     sites: usize,
@@ -136,7 +136,7 @@ pub fn canonicalize_with_stabilizer(
 
 // The traversal, by masks where every generator rotates inside blocks.
 pub fn traverse(
-    targets: &[u32],
+    targets: &[u16],
     orders: &[u32],
     generators: usize,
     sites: usize,
@@ -186,7 +186,7 @@ pub fn traverse(
 
 // A kept word: its least word, the index that leads back from there, and the orbit size.
 pub fn kept(
-    targets: &[u32],
+    targets: &[u16],
     orders: &[u32],
     generators: usize,
     sites: usize,
@@ -207,7 +207,7 @@ pub fn kept(
 // The decision, by the path that the group takes: a word that index 0 alone fixes is kept, one that the multiples of a step fix is kept just if the
 // step has numerator 0, and else dropped by the step, and all others are traversed.
 pub fn placed(
-    targets: &[u32],
+    targets: &[u16],
     orders: &[u32],
     generators: usize,
     sites: usize,

@@ -2,6 +2,7 @@
 -- What carries it: a step moves the word that index i reaches to the word that i + 1 reaches (`walk-next` of the orbit).
 use Prim.Native.Nat.{ℕ, zero, suc, _+_, _≤_, _<_, min}
 use mathlib.Core.Path.{_≡_, refl, sym, ap, ap₂, _∙_}
+use mathlib.Core.Logic.{inl}
 use mathlib.Core.Bool.{true}
 use mathlib.Core.List.{List, [], _∷_, _++_, map, append-nil}
 use native.Mathlib.Numerals.{add-one}
@@ -12,8 +13,9 @@ use borrow.Author.Tests.{le-leb, le-ltb}
 use Rattle.pauli_word.specs.Limits.{maxSites, planeLength, wordLength}
 use Rattle.outcome.specs.Outcome.{Outcome, answer, verdict, orElse}
 use Rattle.pauli_word.specs.Word.{Word}
-use Rattle.pauli_word.specs.Bytes.{Bytes, AcceptedWord, lettersIn, bytesOf}
+use Rattle.pauli_word.specs.Bytes.{Bytes, AcceptedWord, EitherWord, lettersIn, bytesOf, inFull, wordIn}
 use Rattle.outcome.proofs.Outcomes.{call-answers, unless-answer}
+use Rattle.pauli_word.proofs.Forms.{full-same, either-accepted}
 use Rattle.pauli_word.proofs.Words.{map-append, decode-length, encode-decode, encoded-accepted, encoded-decode}
 use Rattle.action.specs.Lists.{from, below}
 use Rattle.action.specs.Index.{orderOf, inverse}
@@ -24,7 +26,7 @@ use Rattle.elements.proofs.Orbits.{entries, entries-next, walk-start, walk-acce
 use Rattle.group.specs.declared.Group.{Group}
 use Rattle.orbit.specs.declared.Walk.{Walk}
 use Rattle.group.specs.Value.{generatorsOf, AcceptedGroup}
-use Rattle.orbit.specs.Calls.{wordCallChecks, isWalk, beginOutcome, Entry, entry, finished, afterEntry, nextOutcome, walkChecks}
+use Rattle.orbit.specs.Calls.{wordCallChecks, isWalk, walkIn, beginOutcome, Entry, entry, finished, afterEntry, nextOutcome, walkChecks}
 use Rattle.orbit.proofs.Walking.{walk-word, walk-index}
 use Rattle.group.proofs.Accepted.{accepted-tables}
 use Rattle.orbit.proofs.Outcomes.{next-entry, next-finished}
@@ -129,23 +131,26 @@ module _ (g : Group) (ok : AcceptedGroup g) (w : Word) (size : length w ≡ g .s
 
 -- ---- a walk begun with an accepted group and word
 
-module _ (g : Group) (ok : AcceptedGroup g) (bytes : List ℕ) (word : AcceptedWord (g .sites) bytes)
+module _ (g : Group) (ok : AcceptedGroup g) (bytes : List ℕ) (word : EitherWord (g .sites) bytes)
     (start : Walk) (begun : beginOutcome g (g .sites) bytes ≡ answer start) where
-  pub starts : start ≡ walkAt g (lettersIn (g .sites) bytes) 0
+  full : AcceptedWord (g .sites) (inFull bytes)
+  full = either-accepted (g .sites) bytes word
+
+  pub starts : start ≡ walkAt g (wordIn (g .sites) bytes) 0
   unfolding beginOutcome
   starts =
-      let first = walk-start word (generatorsOf g) in
-      sym (unless-answer (wordCallChecks g (g .sites) bytes) (record { group = g; word = bytes; index = 0 }) start begun .1)
+      let first = walk-start full (generatorsOf g) in
+      sym (unless-answer (wordCallChecks g (g .sites) bytes) (walkIn g (inFull bytes) 0) start begun .1)
       ∙ (λ j. record { group = g; word = first j; index = 0 })
 
-  pub steps-at : (i : ℕ) → walked i start ≡ walkAt g (lettersIn (g .sites) bytes) (min i (orderOf (generatorsOf g)))
-  steps-at i = ap (walked i) starts ∙ walked-at g ok (lettersIn (g .sites) bytes) (decode-length word) i
+  pub steps-at : (i : ℕ) → walked i start ≡ walkAt g (wordIn (g .sites) bytes) (min i (orderOf (generatorsOf g)))
+  steps-at i = ap (walked i) starts ∙ walked-at g ok (wordIn (g .sites) bytes) (decode-length full) i
 
-  pub steps-before : (i : ℕ) → i ≤ orderOf (generatorsOf g) → walked i start ≡ walkAt g (lettersIn (g .sites) bytes) i
-  steps-before i h = steps-at i ∙ ap (walkAt g (lettersIn (g .sites) bytes)) (omega arith)
+  pub steps-before : (i : ℕ) → i ≤ orderOf (generatorsOf g) → walked i start ≡ walkAt g (wordIn (g .sites) bytes) i
+  steps-before i h = steps-at i ∙ ap (walkAt g (wordIn (g .sites) bytes)) (omega arith)
 
-  pub steps-past : (i : ℕ) → orderOf (generatorsOf g) ≤ i → walked i start ≡ walkAt g (lettersIn (g .sites) bytes) (orderOf (generatorsOf g))
-  steps-past i h = steps-at i ∙ ap (walkAt g (lettersIn (g .sites) bytes)) (omega arith)
+  pub steps-past : (i : ℕ) → orderOf (generatorsOf g) ≤ i → walked i start ≡ walkAt g (wordIn (g .sites) bytes) (orderOf (generatorsOf g))
+  steps-past i h = steps-at i ∙ ap (walkAt g (wordIn (g .sites) bytes)) (omega arith)
 
 -- ---- where a walk has begun: at the word that the inverse of its index reaches
 
@@ -172,22 +177,28 @@ module _ (v : Walk) (one : isWalk v ≡ true) (ok : AcceptedGroup (v .group)) (s
   pub beginning-accepted : AcceptedWord (v .group .sites) (bytesOf (beginningOf v))
   beginning-accepted = encoded-accepted planeLength (beginningOf v) beginning-long few refl
 
+  -- as bytes it is in full
+  whole : inFull (bytesOf (beginningOf v)) ≡ bytesOf (beginningOf v)
+  whole = full-same (bytesOf (beginningOf v)) (beginning-accepted .long)
+
   pub beginning-begun : beginOutcome (v .group) (v .group .sites) (bytesOf (beginningOf v)) ≡ answer (begunAs v)
   unfolding beginOutcome
   beginning-begun =
-      call-answers (wordCallChecks (v .group) (v .group .sites) (bytesOf (beginningOf v))) (answer (begunAs v))
-      (word-call-passes (v .group) ok (bytesOf (beginningOf v)) beginning-accepted)
+      call-answers (wordCallChecks (v .group) (v .group .sites) (bytesOf (beginningOf v))) (answer (walkIn (v .group) (inFull (bytesOf (beginningOf v))) 0))
+      (word-call-passes (v .group) ok (bytesOf (beginningOf v)) (inl beginning-accepted))
+      ∙ ap (λ (l : List ℕ). answer (walkIn (v .group) l 0)) whole
 
   -- its own index leads from there to its word
-  back : bytesOf (reach (generatorsOf (v .group)) (v .index) (lettersIn (v .group .sites) (bytesOf (beginningOf v)))) ≡ v .word
+  back : bytesOf (reach (generatorsOf (v .group)) (v .index) (wordIn (v .group .sites) (bytesOf (beginningOf v)))) ≡ v .word
   back =
       ap bytesOf
-      (ap (reach (generatorsOf (v .group)) (v .index)) (encoded-decode planeLength (beginningOf v) beginning-long few refl)
+      (ap (reach (generatorsOf (v .group)) (v .index))
+      (ap (lettersIn (v .group .sites)) whole ∙ encoded-decode planeLength (beginningOf v) beginning-long few refl)
       ∙ reach-of-inverse (held-valid (v .group) ok) (v .index) (lettersIn (v .group .sites) (v .word)) (decode-length now))
       ∙ encode-decode now
 
   pub beginning-reaches : walked (v .index) (begunAs v) ≡ v
   beginning-reaches =
-      steps-before (v .group) ok (bytesOf (beginningOf v)) beginning-accepted (begunAs v) beginning-begun (v .index)
+      steps-before (v .group) ok (bytesOf (beginningOf v)) (inl beginning-accepted) (begunAs v) beginning-begun (v .index)
       (walk-index v (checks-passed v few one))
       ∙ (λ i. record { group = v .group; word = back i; index = v .index })

@@ -1,9 +1,9 @@
 -- What the checks of a walk come to, rule by rule, and what checks that pass have shown.
 -- What carries it: a walk's group is looked at first, so a group that is refused decides.
-use Prim.Native.Nat.{_<_, _≤_}
-use mathlib.Core.Path.{_≡_, sym, ap, _∙_}
+use Prim.Native.Nat.{ℕ, _<_, _≤_}
+use mathlib.Core.Path.{_≡_, sym, ap, ap₂, _∙_}
 use mathlib.Core.Bool.{Bool, true, false, not, cond, _&&_, and-eq-true-iff}
-use mathlib.Core.List.{[], _∷_}
+use mathlib.Core.List.{List, [], _∷_}
 use lib.Dec.{ltb, leb}
 use lib.ListN.{length, take, drop}
 use borrow.Author.Tests.{le-ltb, ltb-false, le-leb, lt-leb, leb-true, not-false}
@@ -16,10 +16,16 @@ use Rattle.pauli_word.specs.Bytes.{clearFrom, Bytes, AcceptedWord}
 use Rattle.pauli_word.specs.Calls.{siteCount, clearAbove}
 use Rattle.action.specs.Index.{orderOf}
 use Rattle.permutation.specs.Limits.{maxGenerators, targetPlaces}
+use Rattle.group.specs.declared.Group.{Group}
 use Rattle.group.specs.Value.{generatorsOf, isGroup, AcceptedGroup}
 use Rattle.group.specs.Calls.{valueChecks}
+use Rattle.group.proofs.Accepted.{value-fine, value-passes}
 use Rattle.orbit.specs.declared.Walk.{Walk}
-use Rattle.orbit.specs.Calls.{isWalk, notAWalk, walkChecks}
+use Rattle.orbit.specs.Calls.{walkIn, isWalk, notAWalk, walkChecks}
+
+-- walks of a group with the same word and index are the same
+pub same-walk : (g : Group) {u v : List ℕ} {i j : ℕ} → u ≡ v → i ≡ j → walkIn g u i ≡ walkIn g v j
+same-walk g p q = ap₂ (walkIn g) p q
 
 -- what 1 and 14 come to, by whether each is broken
 abbrev outcomeBy : Bool → Bool → Outcome (Unit {0})
@@ -37,12 +43,12 @@ module _ (w : Walk) where
       go false true clear inside k = absurd (refused-apart _ _ tt (sym k))
       go false false clear inside k = k
 
-  module _ (ok : AcceptedGroup (w .group)) where
+  module _ (ok : verdict (valueChecks (w .group)) ≡ answer tt) where
     walk-decides :
         verdict (walkChecks w)
         ≡ outcomeBy false (true && clearAbove (w .group .sites) (w .word) && leb (w .index) (orderOf (generatorsOf (w .group))))
     unfolding isWalk
-    walk-decides = rw (le-ltb maxSites (w .group .sites) (ok .few), ok .isOne)
+    walk-decides = let (few, one) = value-fine (w .group) ok in rw (le-ltb maxSites (w .group .sites) few, one)
 
     pub other-word : clearAbove (w .group .sites) (w .word) ≡ false → verdict (walkChecks w) ≡ refusalOf Refusal.InvalidValue
     other-word e = walk-decides ∙ ap (λ (b : Bool). outcomeBy false (true && b && leb (w .index) (orderOf (generatorsOf (w .group))))) e
@@ -83,6 +89,9 @@ module _ (w : Walk) (ok : verdict (walkChecks w) ≡ answer tt) where
       and-eq-true-iff (clearFrom (w .group .sites) (take planeLength (w .word))) (clearFrom (w .group .sites) (drop planeLength (w .word))) .0 word
       in
       (group, x, z, last)
+
+  pub walk-value : verdict (valueChecks (w .group)) ≡ answer tt
+  walk-value = value-passes (w .group) few (parts .0)
 
   pub walk-group : length (w .group .targets) ≡ targetPlaces → length (w .group .orders) ≡ maxGenerators → AcceptedGroup (w .group)
   walk-group targets orders = record { few = few; isOne = parts .0; targets = targets; orders = orders }

@@ -1,28 +1,32 @@
 -- What the checks of a group value and a word come to, rule by rule, and what checks that pass have shown.
 -- What carries it: the first rule that is broken decides, and a pass breaks none.
 use Prim.Native.Nat.{ℕ, _<_, _≤_}
-use mathlib.Core.Path.{_≡_, refl, ap, subst, _∙_}
-use mathlib.Core.Bool.{Bool, true, false, not, cond, and-eq-true-iff}
+use mathlib.Core.Path.{_≡_, refl, sym, ap, subst, _∙_}
+use mathlib.Core.Logic.{inl, inr}
+use mathlib.Core.Bool.{Bool, true, false, not, cond}
 use mathlib.Core.List.{List, [], _∷_}
+use native.Mathlib.Decide.{ℕ-discrete}
 use lib.Dec.{ltb, eqb}
-use lib.ListN.{length, take, drop}
+use lib.ListN.{length}
 use borrow.Author.Tests.{lt-ltb, le-ltb, ltb-false, eq-eqb, ne-eqb, eqb-true, not-false}
-use Rattle.outcome.specs.declared.Refusal.{Refusal}
 use Rattle.outcome.specs.declared.Refusal.the-variants as Refusal
 use Rattle.outcome.specs.declared.Verdict.{Verdict}
 use Rattle.outcome.specs.declared.Verdict.the-variants as Verdict
-use Rattle.outcome.specs.Outcome.{answer, refusalOf, outcomeOfVerdict, verdict}
+use Rattle.outcome.specs.Outcome.{answer, refusalOf, outcomeOfVerdict, verdict, Check, rule}
 use Rattle.outcome.proofs.Outcomes.{verdict-fine, told-passes}
-use Rattle.pauli_word.specs.Limits.{maxSites, planeLength, wordLength}
-use Rattle.pauli_word.specs.Bytes.{clearFrom, Bytes, AcceptedWord}
-use Rattle.pauli_word.specs.Calls.{siteCount, wordSize, bitAbove, clearAbove}
+use Rattle.pauli_word.specs.Limits.{maxSites, wordLength, oldLength}
+use Rattle.pauli_word.specs.Bytes.{Bytes, AcceptedWord, EitherLength, EitherWord, inFull}
+use Rattle.pauli_word.specs.Calls.{siteCount, wordSize, oldSize, bitAbove, clearAbove, eitherLength, pastOld}
+use Rattle.pauli_word.proofs.Forms.{either-length, either-accepted, full-other, full-full, full-length}
+use Rattle.pauli_word.proofs.Checks.{either-true, either-told, past-full, accepted-by, accepted-fits, accepted-clear}
 use Rattle.permutation.specs.Limits.{maxGenerators, targetPlaces}
 use Rattle.group.specs.declared.Group.{Group}
 use Rattle.group.specs.Value.{isGroup, notAGroup, AcceptedGroup}
-use Rattle.group.proofs.Accepted.{accepted-by}
+use Rattle.group.specs.Calls.{valueChecks}
+use Rattle.group.proofs.Accepted.{accepted-by as group-accepted-by, value-passes}
 use Rattle.orbit.specs.Calls.{otherSites, wordCallChecks}
 
--- ---- 1, 14, 15, 16, 17
+-- ---- 1, 14, 15, 36, 16, 17
 
 module _ (g : Group) (n : ℕ) (bytes : List ℕ) where
   pub group-many : maxSites < g .sites → verdict (wordCallChecks g n bytes) ≡ refusalOf Refusal.TooManySites
@@ -37,83 +41,110 @@ module _ (g : Group) (n : ℕ) (bytes : List ℕ) where
       group-other e = simp (le-ltb maxSites (g .sites) few, le-ltb maxSites n short, e)
 
       module _ (one : isGroup g ≡ true) where
-        pub other-length : (length bytes ≡ wordLength → ⊥) → verdict (wordCallChecks g n bytes) ≡ refusalOf Refusal.WordLength
-        other-length h = simp (le-ltb maxSites (g .sites) few, le-ltb maxSites n short, one, ne-eqb (length bytes) wordLength h)
+        pub other-length : eitherLength (length bytes) ≡ false → verdict (wordCallChecks g n bytes) ≡ refusalOf Refusal.WordLength
+        other-length e = simp (le-ltb maxSites (g .sites) few, le-ltb maxSites n short, one, e)
 
-        module _ (long : length bytes ≡ wordLength) where
-          pub other-sites : (n ≡ g .sites → ⊥) → verdict (wordCallChecks g n bytes) ≡ refusalOf Refusal.OtherSites
-          other-sites h =
-              simp (le-ltb maxSites (g .sites) few, le-ltb maxSites n short, one, eq-eqb (length bytes) wordLength long, ne-eqb n (g .sites) h)
+        module _ (either : eitherLength (length bytes) ≡ true) where
+          pub past-old : pastOld n (length bytes) ≡ true → verdict (wordCallChecks g n bytes) ≡ refusalOf Refusal.OldWordSites
+          past-old p = simp (le-ltb maxSites (g .sites) few, le-ltb maxSites n short, one, either, p)
 
-          module _ (same : n ≡ g .sites) where
-            word-decides : verdict (wordCallChecks g n bytes) ≡ cond (not (clearAbove n bytes)) (refusalOf Refusal.BitAboveSites) (answer tt)
-            word-decides =
-                simp (le-ltb maxSites (g .sites) few, le-ltb maxSites n short, one, eq-eqb (length bytes) wordLength long, eq-eqb n (g .sites) same)
+          module _ (fits : pastOld n (length bytes) ≡ false) where
+            pub other-sites : (n ≡ g .sites → ⊥) → verdict (wordCallChecks g n bytes) ≡ refusalOf Refusal.OtherSites
+            other-sites h = simp (le-ltb maxSites (g .sites) few, le-ltb maxSites n short, one, either, fits, ne-eqb n (g .sites) h)
 
-            pub bit-above : clearAbove n bytes ≡ false → verdict (wordCallChecks g n bytes) ≡ refusalOf Refusal.BitAboveSites
-            bit-above e = word-decides ∙ ap (λ (b : Bool). cond (not b) (refusalOf Refusal.BitAboveSites) (answer tt)) e
+            module _ (same : n ≡ g .sites) where
+              pub bit-above : clearAbove n (inFull bytes) ≡ false → verdict (wordCallChecks g n bytes) ≡ refusalOf Refusal.BitAboveSites
+              bit-above e = simp (le-ltb maxSites (g .sites) few, le-ltb maxSites n short, one, either, fits, eq-eqb n (g .sites) same, e)
 
-            pub word-passes : clearAbove n bytes ≡ true → verdict (wordCallChecks g n bytes) ≡ answer tt
-            word-passes e = word-decides ∙ ap (λ (b : Bool). cond (not b) (refusalOf Refusal.BitAboveSites) (answer tt)) e
+              pub word-passes : clearAbove n (inFull bytes) ≡ true → verdict (wordCallChecks g n bytes) ≡ answer tt
+              word-passes e = simp (le-ltb maxSites (g .sites) few, le-ltb maxSites n short, one, either, fits, eq-eqb n (g .sites) same, e)
 
 -- ---- what a pass has shown
 
 module _ (g : Group) (n : ℕ) (bytes : List ℕ) (pass : verdict (wordCallChecks g n bytes) ≡ answer tt) where
-  one : (ltb maxSites (g .sites) ≡ false) × (verdict (siteCount n ∷ notAGroup g ∷ wordSize bytes ∷ otherSites g n ∷ bitAbove n bytes ∷ []) ≡ answer tt)
-  one = verdict-fine (siteCount (g .sites)) (siteCount n ∷ notAGroup g ∷ wordSize bytes ∷ otherSites g n ∷ bitAbove n bytes ∷ []) pass
+  -- the checks after each, from 1 on
+  abbrev after16 : List Check
+  after16 = bitAbove n bytes ∷ []
 
-  few : (ltb maxSites n ≡ false) × (verdict (notAGroup g ∷ wordSize bytes ∷ otherSites g n ∷ bitAbove n bytes ∷ []) ≡ answer tt)
-  few = verdict-fine (siteCount n) (notAGroup g ∷ wordSize bytes ∷ otherSites g n ∷ bitAbove n bytes ∷ []) (one .1)
+  abbrev after36 : List Check
+  after36 = otherSites g n ∷ after16
 
-  fourteen : (not (isGroup g) ≡ false) × (verdict (wordSize bytes ∷ otherSites g n ∷ bitAbove n bytes ∷ []) ≡ answer tt)
-  fourteen = verdict-fine (notAGroup g) (wordSize bytes ∷ otherSites g n ∷ bitAbove n bytes ∷ []) (few .1)
+  abbrev after15 : List Check
+  after15 = oldSize n bytes ∷ after36
 
-  fifteen : (not (eqb (length bytes) wordLength) ≡ false) × (verdict (otherSites g n ∷ bitAbove n bytes ∷ []) ≡ answer tt)
-  fifteen = verdict-fine (wordSize bytes) (otherSites g n ∷ bitAbove n bytes ∷ []) (fourteen .1)
+  abbrev after14 : List Check
+  after14 = wordSize bytes ∷ after15
 
-  sixteen : (not (eqb n (g .sites)) ≡ false) × (verdict (bitAbove n bytes ∷ []) ≡ answer tt)
-  sixteen = verdict-fine (otherSites g n) (bitAbove n bytes ∷ []) (fifteen .1)
+  abbrev after1 : List Check
+  after1 = notAGroup g ∷ after14
 
-  clear : (clearFrom n (take planeLength bytes) ≡ true) × (clearFrom n (drop planeLength bytes) ≡ true)
-  clear =
-      and-eq-true-iff (clearFrom n (take planeLength bytes)) (clearFrom n (drop planeLength bytes)) .0
-      (not-false (clearAbove n bytes) (verdict-fine (bitAbove n bytes) [] (sixteen .1) .0))
+  one : (ltb maxSites (g .sites) ≡ false) × (verdict (siteCount n ∷ after1) ≡ answer tt)
+  one = verdict-fine (siteCount (g .sites)) (siteCount n ∷ after1) pass
+
+  few : (ltb maxSites n ≡ false) × (verdict after1 ≡ answer tt)
+  few = verdict-fine (siteCount n) after1 (one .1)
+
+  fourteen : (not (isGroup g) ≡ false) × (verdict after14 ≡ answer tt)
+  fourteen = verdict-fine (notAGroup g) after14 (few .1)
+
+  fifteen : (not (eitherLength (length bytes)) ≡ false) × (verdict after15 ≡ answer tt)
+  fifteen = verdict-fine (wordSize bytes) after15 (fourteen .1)
+
+  thirty-six : (pastOld n (length bytes) ≡ false) × (verdict after36 ≡ answer tt)
+  thirty-six = verdict-fine (oldSize n bytes) after36 (fifteen .1)
+
+  sixteen : (not (eqb n (g .sites)) ≡ false) × (verdict after16 ≡ answer tt)
+  sixteen = verdict-fine (otherSites g n) after16 (thirty-six .1)
+
+  pub call-value : verdict (valueChecks g) ≡ answer tt
+  call-value = value-passes g (ltb-false maxSites (g .sites) (one .0)) (not-false (isGroup g) (fourteen .0))
 
   pub call-group : length (g .targets) ≡ targetPlaces → length (g .orders) ≡ maxGenerators → AcceptedGroup g
-  call-group targets orders = accepted-by g targets orders (one .0) (fourteen .0)
+  call-group targets orders = group-accepted-by g targets orders (one .0) (fourteen .0)
 
   pub call-sites : n ≡ g .sites
   call-sites = eqb-true n (g .sites) (not-false (eqb n (g .sites)) (sixteen .0))
 
-  pub call-long : length bytes ≡ wordLength
-  call-long = eqb-true (length bytes) wordLength (not-false (eqb (length bytes) wordLength) (fifteen .0))
+  pub call-long : EitherLength (length bytes)
+  call-long = either-told (length bytes) (not-false (eitherLength (length bytes)) (fifteen .0))
 
-  pub call-word : Bytes bytes → AcceptedWord (g .sites) bytes
+  pub call-fits : pastOld n (length bytes) ≡ false
+  call-fits = thirty-six .0
+
+  pub call-word : Bytes bytes → EitherWord (g .sites) bytes
   call-word small =
-      let ok : AcceptedWord n bytes =
-      record { sites = ltb-false maxSites n (few .0); long = call-long; small = small; xClear = clear .0; zClear = clear .1 }
-      in
-      subst (λ (k : ℕ). AcceptedWord k bytes) call-sites ok
+      subst (λ (k : ℕ). EitherWord k bytes) call-sites
+      (accepted-by n bytes (ltb-false maxSites n (few .0)) call-long call-fits
+      (not-false (clearAbove n (inFull bytes)) (verdict-fine (bitAbove n bytes) [] (sixteen .1) .0)) small)
 
 -- ---- an accepted group and an accepted word of its sites pass
 
 pub word-call-passes :
-    (g : Group) → AcceptedGroup g → (bytes : List ℕ) → AcceptedWord (g .sites) bytes → verdict (wordCallChecks g (g .sites) bytes) ≡ answer tt
+    (g : Group) → AcceptedGroup g → (bytes : List ℕ) → EitherWord (g .sites) bytes → verdict (wordCallChecks g (g .sites) bytes) ≡ answer tt
 word-call-passes g ok bytes word =
-    simp (
-      le-ltb maxSites (g .sites) (ok .few),
-      ok .isOne,
-      eq-eqb (length bytes) wordLength (word .long),
-      eq-eqb (g .sites) (g .sites) refl,
-      word .xClear,
-      word .zClear,
-    )
+    word-passes g (g .sites) bytes (ok .few) (ok .few) (ok .isOne) (either-true (length bytes) (either-length (g .sites) bytes word))
+    (accepted-fits (g .sites) bytes word) refl (accepted-clear (g .sites) bytes word)
 
--- ---- a call that has been told that its checks pass
+-- ---- a word of the old form with no more sites than that form has is checked as the word in full is
 
-pub call-accepted :
-    (g : Group) (n : ℕ) (bytes : List ℕ) {v : Verdict} → outcomeOfVerdict v ≡ verdict (wordCallChecks g n bytes) → v ≡ Verdict.Accepted
-    → length (g .targets) ≡ targetPlaces → length (g .orders) ≡ maxGenerators → Bytes bytes → AcceptedGroup g × AcceptedWord (g .sites) bytes
-call-accepted g n bytes told e targets orders small =
-    let pass = told-passes (wordCallChecks g n bytes) _ told e in
-    (call-group g n bytes pass targets orders, call-word g n bytes pass small)
+pub checks-full :
+    (g : Group) (n : ℕ) (bytes : List ℕ) → pastOld n (length bytes) ≡ false → wordCallChecks g n (inFull bytes) ≡ wordCallChecks g n bytes
+checks-full g n bytes fits = go (ℕ-discrete (length bytes) oldLength)
+  where
+    go : Dec (length bytes ≡ oldLength) → wordCallChecks g n (inFull bytes) ≡ wordCallChecks g n bytes
+    go (yes e) =
+        let long = full-length bytes (inr e) in
+        rw (full-full bytes, either-true (length (inFull bytes)) (inl long), past-full n (length (inFull bytes)) long, either-true (length bytes) (inr e), fits)
+    go (no d) = ap (wordCallChecks g n) (full-other bytes d)
+
+-- ---- a word that passes, in full: it is accepted, and passes with the group's own site count
+
+module _ (g : Group) (n : ℕ) (bytes : List ℕ) (pass : verdict (wordCallChecks g n bytes) ≡ answer tt) where
+  pub full-passes : verdict (wordCallChecks g (g .sites) (inFull bytes)) ≡ answer tt
+  full-passes =
+      ap (λ (m : ℕ). verdict (wordCallChecks g m (inFull bytes))) (sym (call-sites g n bytes pass))
+      ∙ ap verdict (checks-full g n bytes (call-fits g n bytes pass))
+      ∙ pass
+
+  pub full-word : Bytes bytes → AcceptedWord (g .sites) (inFull bytes)
+  full-word small = either-accepted (g .sites) bytes (call-word g n bytes pass small)

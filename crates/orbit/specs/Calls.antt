@@ -8,8 +8,8 @@ use Rattle.outcome.specs.declared.Refusal.the-variants as Refusal
 use Rattle.outcome.specs.Outcome.{Outcome, answer, refusalOf, Check, rule, unless}
 use Rattle.pauli_word.specs.Limits.{wordLength}
 use Rattle.pauli_word.specs.Word.{Word}
-use Rattle.pauli_word.specs.Bytes.{lettersIn, bytesOf}
-use Rattle.pauli_word.specs.Calls.{siteCount, wordSize, bitAbove, clearAbove}
+use Rattle.pauli_word.specs.Bytes.{lettersIn, bytesOf, inFull, wordIn}
+use Rattle.pauli_word.specs.Calls.{siteCount, wordSize, oldSize, bitAbove, clearAbove}
 use Rattle.action.specs.Index.{orderOf, digits}
 use Rattle.action.specs.Orbit.{stepped, orbitList, least, indexBack}
 use Rattle.permutation.specs.Limits.{maxOrder}
@@ -20,23 +20,24 @@ use Rattle.orbit.specs.declared.Walk.{Walk}
 use Rattle.orbit.specs.declared.Step.{Step}
 use Rattle.orbit.specs.declared.Step.the-variants as Step
 
--- ---- calls that take a group and a word: 1, 14, 15, 16, 17, and then their own
+-- ---- calls that take a group and a word: 1, 14, 15, 36, 16, 17, and then their own
 
 -- 16: a word's site count is not the group's
 abbrev pub otherSites : Group → ℕ → Check
 otherSites g n = rule Refusal.OtherSites (not (eqb n (g .sites)))
 
 abbrev pub wordCallChecks : Group → ℕ → List ℕ → List Check
-wordCallChecks g n bytes = siteCount (g .sites) ∷ siteCount n ∷ notAGroup g ∷ wordSize bytes ∷ otherSites g n ∷ bitAbove n bytes ∷ []
+wordCallChecks g n bytes =
+    siteCount (g .sites) ∷ siteCount n ∷ notAGroup g ∷ wordSize bytes ∷ oldSize n bytes ∷ otherSites g n ∷ bitAbove n bytes ∷ []
 
 unfoldable pub canonicalizeOutcome : Group → ℕ → List ℕ → Outcome Word
-canonicalizeOutcome g n bytes = unless (wordCallChecks g n bytes) (answer (least (generatorsOf g) (lettersIn n bytes)))
+canonicalizeOutcome g n bytes = unless (wordCallChecks g n bytes) (answer (least (generatorsOf g) (wordIn n bytes)))
 
 -- the least word, and the index that leads from it back to the word
 unfoldable pub withIndexOutcome : Group → ℕ → List ℕ → Outcome (Word × ℕ)
 withIndexOutcome g n bytes =
     unless (wordCallChecks g n bytes)
-    (answer (least (generatorsOf g) (lettersIn n bytes), indexBack (generatorsOf g) (lettersIn n bytes)))
+    (answer (least (generatorsOf g) (wordIn n bytes), indexBack (generatorsOf g) (wordIn n bytes)))
 
 -- its parts as a call hands them back
 abbrev pub wordOf : {A : Type 0} → Word × A → List ℕ
@@ -52,19 +53,23 @@ shiftOf p = p .1
 unfoldable pub withShiftOutcome : Group → ℕ → List ℕ → ℕ → Outcome (Word × List ℕ)
 withShiftOutcome g n bytes k =
     unless (wordCallChecks g n bytes ++ (listLength k (g .generators) ∷ []))
-    (answer (least (generatorsOf g) (lettersIn n bytes), digits (generatorsOf g) (indexBack (generatorsOf g) (lettersIn n bytes))))
+    (answer (least (generatorsOf g) (wordIn n bytes), digits (generatorsOf g) (indexBack (generatorsOf g) (wordIn n bytes))))
 
 -- the orbit list; k is the length of the lent list
 unfoldable pub orbitListOutcome : Group → ℕ → List ℕ → ℕ → Outcome (List Word)
 orbitListOutcome g n bytes k =
     unless (wordCallChecks g n bytes ++ (listLength k (wordLength * orderOf (generatorsOf g)) ∷ []))
-    (answer (orbitList (generatorsOf g) (lettersIn n bytes)))
+    (answer (orbitList (generatorsOf g) (wordIn n bytes)))
 
 -- the bytes beside an answer without a word
 abbrev pub noWord : List ℕ
 noWord = replicate wordLength 0
 
 -- ---- the walk
+
+-- a walk by its parts
+abbrev pub walkIn : Group → List ℕ → ℕ → Walk
+walkIn g word index = record { group = g; word = word; index = index }
 
 -- whether a walk value is one that accepted calls reach: a group, an accepted word of its sites, an index up to the order
 unfoldable pub isWalk : Walk → Bool
@@ -79,7 +84,7 @@ unfoldable pub noWalk : Walk
 noWalk = record { group = noGroup; word = noWord; index = suc maxOrder }
 
 unfoldable pub beginOutcome : Group → ℕ → List ℕ → Outcome Walk
-beginOutcome g n bytes = unless (wordCallChecks g n bytes) (answer (record { group = g; word = bytes; index = 0 }))
+beginOutcome g n bytes = unless (wordCallChecks g n bytes) (answer (walkIn g (inFull bytes) 0))
 
 -- an entry with its index, or the end
 pub data Entry : Type 0 where

@@ -5,7 +5,7 @@ use mathlib.Core.Bool.{true, false}
 use mathlib.Core.List.{List, [], _∷_, _++_}
 use Rattle.outcome.specs.Outcome.{Outcome, answer, orElse}
 use Rattle.pauli_word.specs.Word.{Word, less}
-use Rattle.pauli_word.specs.Bytes.{AcceptedWord}
+use Rattle.pauli_word.specs.Bytes.{EitherWord}
 use Rattle.action.specs.Permutation.{Generator}
 use Rattle.action.specs.Index.{orderOf, inverse}
 use Rattle.action.specs.Orbit.{reach, orbit, isIn}
@@ -34,7 +34,7 @@ wordsGiven (suc k) v = wordsGiven k v ++ orElse (wordGiven (walked k v)) [] (nex
 -- a walk that steps lead to from an accepted beginning
 pub record Reached (v : Walk) : Type 0 where
   pub bytes : List ℕ
-  pub accepted : AcceptedWord (v .group .sites) bytes
+  pub accepted : EitherWord (v .group .sites) bytes
   pub start : Walk
   pub begun : beginOutcome (v .group) (v .group .sites) bytes ≡ answer start
   pub steps : ℕ

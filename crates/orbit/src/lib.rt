@@ -4,7 +4,8 @@
 // a refusal passes for nothing.
 mod calls;
 pub mod inner;
-mod steps;
+pub mod lent;
+pub mod steps;
 
 ghost use mathlib.Core.Path.{_≡_};
 ghost use lib.ListN.{length};
@@ -61,19 +62,14 @@ pub fn canonicalize(group: Group, n: usize, word: &[u8]) -> Canonical
     ensures answer { λ r. ⌜ outcomeOfVerdict (r .answer) ≡ onAnswer done (canonicalizeOutcome group n (now (word .entry))) ⌝ }
     ensures word { λ r. ⌜ r .word ≡ orElse bytesOf noWord (canonicalizeOutcome group n (now (word .entry))) ⌝ }
 {
-    let found = canonicalize_with_index(group, n, word);
-    let answer = found.answer;
-    let least = found.word;
-    match answer {
-        Number::Value(_) => Canonical {
-            answer: Verdict::Accepted,
-            word: least,
-        },
-        Number::Refused(why) => Canonical {
-            answer: Verdict::Refused(why),
-            word: least,
-        },
-    }
+    lent::canonicalize(
+        &group.targets,
+        &group.orders,
+        group.generators,
+        group.sites,
+        n,
+        word,
+    )
 }
 
 // The least word of a word's orbit, and the index that leads from it back to the word: the inverse of the smallest one that reaches it.
@@ -81,20 +77,14 @@ pub fn canonicalize_with_index(group: Group, n: usize, word: &[u8]) -> Canonical
     ensures answer { λ r. ⌜ outcomeOfNumber (r .answer) ≡ onAnswer indexOf (withIndexOutcome group n (now (word .entry))) ⌝ }
     ensures word { λ r. ⌜ r .word ≡ orElse wordOf noWord (withIndexOutcome group n (now (word .entry))) ⌝ }
 {
-    match inner::word_call_checked(group, n, word) {
-        Verdict::Refused(why) => CanonicalIndex {
-            answer: Number::Refused(why),
-            word: [0u8; WORD_BYTES],
-        },
-        Verdict::Accepted => {
-            let least = inner::least_of(group, word);
-            let found = least.word;
-            CanonicalIndex {
-                answer: Number::Value(least.index),
-                word: found,
-            }
-        }
-    }
+    lent::canonicalize_with_index(
+        &group.targets,
+        &group.orders,
+        group.generators,
+        group.sites,
+        n,
+        word,
+    )
 }
 
 // The same with the counter of that index, into a list with a place for each generator.
@@ -108,13 +98,15 @@ pub fn canonicalize_with_shift(
     ensures word { λ r. ⌜ r .word ≡ orElse wordOf noWord (withShiftOutcome group n (now (word .entry)) (length (now (counter .entry)))) ⌝ }
     ensures counter { λ _. ⌜ now (counter .exit) ≡ orElse shiftOf (now (counter .entry)) (withShiftOutcome group n (now (word .entry)) (length (now (counter .entry)))) ⌝ }
 {
-    match inner::word_call_checked(group, n, word) {
-        Verdict::Refused(why) => Canonical {
-            answer: Verdict::Refused(why),
-            word: [0u8; WORD_BYTES],
-        },
-        Verdict::Accepted => calls::shift_of(group, word, counter),
-    }
+    lent::canonicalize_with_shift(
+        &group.targets,
+        &group.orders,
+        group.generators,
+        group.sites,
+        n,
+        word,
+        counter,
+    )
 }
 
 // The orbit list: the bytes of one entry for each index, repeats included, into a list of WORD_BYTES times the order.
@@ -122,10 +114,15 @@ pub fn orbit_list(group: Group, n: usize, word: &[u8], list: &mut [u8]) -> Verdi
     ensures answer { λ r. ⌜ outcomeOfVerdict r ≡ onAnswer done (orbitListOutcome group n (now (word .entry)) (length (now (list .entry)))) ⌝ }
     ensures list { λ _. ⌜ now (list .exit) ≡ orElse encodeAll (now (list .entry)) (orbitListOutcome group n (now (word .entry)) (length (now (list .entry)))) ⌝ }
 {
-    match inner::word_call_checked(group, n, word) {
-        Verdict::Refused(why) => Verdict::Refused(why),
-        Verdict::Accepted => calls::orbit_of(group, word, list),
-    }
+    lent::orbit_list(
+        &group.targets,
+        &group.orders,
+        group.generators,
+        group.sites,
+        n,
+        word,
+        list,
+    )
 }
 
 // Begins a walk over a word's orbit; a refused beginning hands back a walk that `next` refuses.
@@ -133,15 +130,31 @@ pub fn orbit(group: Group, n: usize, word: &[u8]) -> Begun
     ensures answer { λ r. ⌜ outcomeOfVerdict (r .answer) ≡ onAnswer done (beginOutcome group n (now (word .entry))) ⌝ }
     ensures walk { λ r. ⌜ r .walk ≡ orElse itself noWalk (beginOutcome group n (now (word .entry))) ⌝ }
 {
-    match inner::word_call_checked(group, n, word) {
+    let begun = lent::orbit(
+        &group.targets,
+        &group.orders,
+        group.generators,
+        group.sites,
+        n,
+        word,
+    );
+    let answer = begun.answer;
+    match answer {
         Verdict::Refused(why) => Begun {
             answer: Verdict::Refused(why),
             walk: steps::no_walk(),
         },
-        Verdict::Accepted => Begun {
-            answer: Verdict::Accepted,
-            walk: steps::walk_from(group, word),
-        },
+        Verdict::Accepted => {
+            let first = begun.at;
+            Begun {
+                answer: Verdict::Accepted,
+                walk: Walk {
+                    group,
+                    word: first,
+                    index: 0,
+                },
+            }
+        }
     }
 }
 
@@ -152,13 +165,27 @@ impl Walk {
         ensures word { λ r. ⌜ r .word ≡ orElse (entryWord self) noWord (nextOutcome self) ⌝ }
         ensures walk { λ r. ⌜ r .walk ≡ orElse (afterEntry self) self (nextOutcome self) ⌝ }
     {
-        match steps::walk_checked(self) {
-            Verdict::Refused(why) => Stepped {
-                answer: Step::Refused(why),
-                word: [0u8; WORD_BYTES],
-                walk: self,
+        let group = self.group;
+        let at = self.word;
+        let moved = lent::next(
+            &group.targets,
+            &group.orders,
+            group.generators,
+            group.sites,
+            at,
+            self.index,
+        );
+        let answer = moved.answer;
+        let word = moved.word;
+        let next = moved.at;
+        Stepped {
+            answer,
+            word,
+            walk: Walk {
+                group,
+                word: next,
+                index: moved.index,
             },
-            Verdict::Accepted => steps::step_of(self),
         }
     }
 }

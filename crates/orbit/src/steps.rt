@@ -3,15 +3,24 @@ ghost use mathlib.Core.Path.{_≡_};
 ghost use lib.ListN.{length};
 ghost use Rattle.outcome.specs.Outcome.{answer, verdict, outcomeOfVerdict, orElse};
 ghost use Rattle.pauli_word.specs.Limits.{wordLength};
-ghost use Rattle.orbit.specs.Calls.{outcomeOfStep, noWord, noWalk, walkChecks, nextOutcome, entryWord, afterEntry};
+ghost use Rattle.group.specs.Value.{groupIn};
+ghost use Rattle.orbit.specs.Calls.{outcomeOfStep, noWord, noWalk, walkIn, walkChecks, nextOutcome, entryWord, afterEntry};
 use crate::Step;
-use crate::Stepped;
 use crate::Walk;
-use group::Group;
 use outcome::Refusal;
 use outcome::Verdict;
 use pauli_word::WORD_BYTES;
+use permutation::MAX_GENERATORS;
 use permutation::MAX_ORDER;
+use permutation::TARGET_PLACES;
+
+// A step of a walk whose group is lent: the answer, the entry's word, and the word and the index of the walk after it.
+pub struct Moved {
+    pub answer: Step,
+    pub word: [u8; WORD_BYTES],
+    pub at: [u8; WORD_BYTES],
+    pub index: usize,
+}
 
 // The walk beside a refused beginning.
 pub fn no_walk() -> Walk
@@ -24,34 +33,25 @@ pub fn no_walk() -> Walk
     }
 }
 
-// The walk at its first entry.
-pub fn walk_from(group: Group, word: &[u8]) -> Walk
-    requires { ⌜ length (now word) ≡ wordLength ⌝ }
-    ensures { λ r. ⌜ (r .group ≡ group) × (r .word ≡ now (word .entry)) × (r .index ≡ 0) ⌝ }
-{
-    let mut first = [0u8; WORD_BYTES];
-    pauli_word::inner::copy(word, &mut first);
-    Walk {
-        group,
-        word: first,
-        index: 0,
-    }
-}
-
 // The checks of a walk: 1, 14.
-pub fn walk_checked(walk: Walk) -> Verdict
-    ensures { λ r. ⌜ outcomeOfVerdict r ≡ verdict (walkChecks walk) ⌝ }
+pub fn walk_checked<'a>(
+    targets: &'a [u16; TARGET_PLACES],
+    orders: &'a [u32; MAX_GENERATORS],
+    generators: usize,
+    sites: usize,
+    at: &[u8],
+    index: usize,
+) -> Verdict
+    requires { ⌜ length (now at) ≡ wordLength ⌝ }
+    ensures { λ r. ⌜ outcomeOfVerdict r ≡ verdict (walkChecks (walkIn (groupIn sites generators (now (orders .entry)) (now (targets .entry))) (now (at .entry)) index)) ⌝ }
 {
-    let group = walk.group;
-    let word = walk.word;
-    let sites = group.sites;
-    match group::inner::value_checked(group) {
+    match group::inner::value_checked(targets, orders, generators, sites) {
         Verdict::Refused(why) => Verdict::Refused(why),
         Verdict::Accepted => {
-            let Verdict::Accepted = pauli_word::inner::checked(sites, &word) else {
+            if !pauli_word::inner::clear_above(sites, at) {
                 return Verdict::Refused(Refusal::InvalidValue);
-            };
-            if group::inner::order_of(group) < walk.index {
+            }
+            if elements::index::order(targets, orders, generators, sites) < index {
                 Verdict::Refused(Refusal::InvalidValue)
             } else {
                 Verdict::Accepted
@@ -61,40 +61,33 @@ pub fn walk_checked(walk: Walk) -> Verdict
 }
 
 // A step of a checked walk.
-pub fn step_of(walk: Walk) -> Stepped
-    requires { ⌜ verdict (walkChecks walk) ≡ answer tt ⌝ }
-    ensures answer { λ r. ⌜ outcomeOfStep (r .answer) ≡ nextOutcome walk ⌝ }
-    ensures word { λ r. ⌜ r .word ≡ orElse (entryWord walk) noWord (nextOutcome walk) ⌝ }
-    ensures walk { λ r. ⌜ r .walk ≡ orElse (afterEntry walk) walk (nextOutcome walk) ⌝ }
+pub fn step_of<'a>(
+    targets: &'a [u16; TARGET_PLACES],
+    orders: &'a [u32; MAX_GENERATORS],
+    generators: usize,
+    sites: usize,
+    at: [u8; WORD_BYTES],
+    index: usize,
+) -> Moved
+    requires { ⌜ verdict (walkChecks (walkIn (groupIn sites generators (now orders) (now targets)) at index)) ≡ answer tt ⌝ }
+    ensures answer { λ r. ⌜ outcomeOfStep (r .answer) ≡ nextOutcome (walkIn (groupIn sites generators (now (orders .entry)) (now (targets .entry))) at index) ⌝ }
+    ensures word { λ r. ⌜ r .word ≡ orElse (entryWord (walkIn (groupIn sites generators (now (orders .entry)) (now (targets .entry))) at index)) noWord (nextOutcome (walkIn (groupIn sites generators (now (orders .entry)) (now (targets .entry))) at index)) ⌝ }
+    ensures walk { λ r. ⌜ walkIn (groupIn sites generators (now (orders .entry)) (now (targets .entry))) (r .at) (r .index) ≡ orElse (afterEntry (walkIn (groupIn sites generators (now (orders .entry)) (now (targets .entry))) at index)) (walkIn (groupIn sites generators (now (orders .entry)) (now (targets .entry))) at index) (nextOutcome (walkIn (groupIn sites generators (now (orders .entry)) (now (targets .entry))) at index)) ⌝ }
 {
-    let group = walk.group;
-    let index = walk.index;
-    if group::inner::order_of(group) <= index {
-        return Stepped {
+    if elements::index::order(targets, orders, generators, sites) <= index {
+        return Moved {
             answer: Step::Finished,
             word: [0u8; WORD_BYTES],
-            walk,
+            at,
+            index,
         };
     }
-    let word = walk.word;
-    let mut next = walk.word;
-    let targets = group.targets;
-    let orders = group.orders;
-    paths::moves::step(
-        &targets,
-        &orders,
-        group.generators,
-        group.sites,
-        index,
-        &mut next,
-    );
-    Stepped {
+    let mut next = at;
+    paths::moves::step(targets, orders, generators, sites, index, &mut next);
+    Moved {
         answer: Step::Entry(index),
-        word,
-        walk: Walk {
-            group,
-            word: next,
-            index: index + 1,
-        },
+        word: at,
+        at: next,
+        index: index + 1,
     }
 }

@@ -9,7 +9,7 @@ use Rattle.outcome.specs.declared.Refusal.{Refusal}
 use Rattle.outcome.specs.declared.Refusal.the-variants as Refusal
 use Rattle.outcome.specs.declared.Verdict.{Verdict}
 use Rattle.outcome.specs.declared.Verdict.the-variants as Verdict
-use Rattle.outcome.specs.Outcome.{outcomeOfVerdict, Outcome, refused, answer, ruleNumber, refusalOf, Check, verdict, alone, given, unless}
+use Rattle.outcome.specs.Outcome.{outcomeOfVerdict, Outcome, refused, answer, ruleNumber, refusalOf, Check, verdict, alone, given, unless, onAnswer, done}
 
 -- ---- a refusal is no answer
 
@@ -116,6 +116,23 @@ module _ (cs : List Check) (v : Verdict) (told : outcomeOfVerdict v ≡ verdict 
   pub told-answers : {A : Type 0} {a b : A} → v ≡ Verdict.Accepted → b ≡ a → answer b ≡ unless cs (answer a)
   told-answers {a} e same = ap answer same ∙ sym (call-answers cs (answer a) (told-passes e))
 
+-- ---- a call whose answer stands beside what it says: whether there is one
+
+module _ {A : Type 0} (o : Outcome A) {v : Verdict} (says : outcomeOfVerdict v ≡ onAnswer done o) where
+  pub says-refused : {why : Refusal} → v ≡ Verdict.Refused why → o ≡ refusalOf why
+  says-refused {why} e = go o (sym (ap outcomeOfVerdict e) ∙ says)
+    where
+      go : (o : Outcome A) → refusalOf why ≡ onAnswer done o → o ≡ refusalOf why
+      go (refused k vs) p = cc
+      go (answer a) p = absurd (refused-apart _ _ tt p)
+
+  pub says-answers : v ≡ Verdict.Accepted → (a : A) × (o ≡ answer a)
+  says-answers e = go o (sym (ap outcomeOfVerdict e) ∙ says)
+    where
+      go : (o : Outcome A) → answer tt ≡ onAnswer done o → (a : A) × (o ≡ answer a)
+      go (refused k vs) p = absurd (refused-apart k vs tt (sym p))
+      go (answer a) p = (a, refl)
+
 -- ---- a rule's number has at most two digits
 
 pub number-small : (why : Refusal) → ruleNumber why < 100
@@ -155,3 +172,4 @@ number-small Refusal.PhaseModulus = omega arith
 number-small (Refusal.CoefficientRange a) = omega arith
 number-small Refusal.PhaseForm = omega arith
 number-small Refusal.PhaseRule = omega arith
+number-small Refusal.OldWordSites = omega arith

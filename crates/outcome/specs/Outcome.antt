@@ -53,6 +53,7 @@ ruleNumber Refusal.PhaseModulus = 32
 ruleNumber (Refusal.CoefficientRange row) = 33
 ruleNumber Refusal.PhaseForm = 34
 ruleNumber Refusal.PhaseRule = 35
+ruleNumber Refusal.OldWordSites = 36
 
 -- the values that it names
 abbrev pub ruleValues : Refusal → List ℕ
@@ -92,6 +93,7 @@ ruleValues Refusal.PhaseModulus = []
 ruleValues (Refusal.CoefficientRange row) = row ∷ []
 ruleValues Refusal.PhaseForm = []
 ruleValues Refusal.PhaseRule = []
+ruleValues Refusal.OldWordSites = []
 
 abbrev pub refusalOf : {A : Type 0} → Refusal → Outcome A
 refusalOf why = refused (ruleNumber why) (ruleValues why)

@@ -33,7 +33,7 @@ pub enum Refusal {
     GroupOrderLimit,
     // 14: a group value that no accepted generators give, or a walk value that accepted calls do not reach.
     InvalidValue,
-    // 15: a word of another number of bytes.
+    // 15: a word of another number of bytes than either form has.
     WordLength,
     // 16: a word of another site count than the group's.
     OtherSites,
@@ -77,6 +77,8 @@ pub enum Refusal {
     PhaseForm,
     // 35: a phase table with a number out of its range, or that breaks a rule.
     PhaseRule,
+    // 36: a word of the old form with more sites than that form has.
+    OldWordSites,
 }
 
 // What checks come to, and a call whose answer stands beside it or in a lent list.
@@ -132,5 +134,6 @@ pub fn rule_number(why: Refusal) -> usize
         Refusal::CoefficientRange(_) => 33,
         Refusal::PhaseForm => 34,
         Refusal::PhaseRule => 35,
+        Refusal::OldWordSites => 36,
     }
 }

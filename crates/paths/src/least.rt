@@ -43,7 +43,7 @@ pub fn by_ties(ties: usize) -> Fixing
 
 // A group whose generators rotate inside blocks: by the least rotation where one shifts by 1, else by masks.
 pub fn by_rotations(
-    targets: &[u32],
+    targets: &[u16],
     orders: &[u32],
     generators: usize,
     sites: usize,
@@ -98,7 +98,7 @@ pub fn by_rotations(
 
 // The least word of a word's orbit, the smallest index that reaches it, and which indices fix the word.
 pub fn least(
-    targets: &[u32],
+    targets: &[u16],
     orders: &[u32],
     generators: usize,
     sites: usize,

@@ -18,7 +18,7 @@ use rotation::planes::MASK_WORDS;
 
 // Whether every generator rotates inside blocks; the strides, the rests and the masks then.
 pub fn find_masks(
-    targets: &[u32],
+    targets: &[u16],
     orders: &[u32],
     generators: usize,
     sites: usize,
@@ -41,7 +41,7 @@ pub fn find_masks(
 
 // The walk's step from the entry of an index to the next by masks, of a stored word; x and z are room for its planes.
 pub fn advance_planes(
-    targets: &[u32],
+    targets: &[u16],
     orders: &[u32],
     generators: usize,
     sites: usize,
@@ -80,7 +80,7 @@ pub fn advance_planes(
 
 // The walk's step from the entry of an index to the next, of a stored word.
 pub fn advance(
-    targets: &[u32],
+    targets: &[u16],
     orders: &[u32],
     generators: usize,
     sites: usize,
@@ -121,7 +121,7 @@ pub fn advance(
 
 // The walk's step where nothing is found yet.
 pub fn step(
-    targets: &[u32],
+    targets: &[u16],
     orders: &[u32],
     generators: usize,
     sites: usize,
@@ -163,7 +163,7 @@ pub fn step(
 
 // The orbit list: the bytes of one entry for each index.
 pub fn fill_orbit(
-    targets: &[u32],
+    targets: &[u16],
     orders: &[u32],
     generators: usize,
     sites: usize,

@@ -3,13 +3,14 @@
 use Prim.Native.Nat.{ℕ, zero, suc, _+_, _-_, _*_, _/_, _%_, _^_, _<_, _≤_}
 use mathlib.Core.Path.{_≡_, refl, sym, ap, ap₂, _∙_}
 use mathlib.Core.Logic.{_⊎_, inl, inr}
-use mathlib.Core.Bool.{Bool, true, false, _&&_, not}
+use mathlib.Core.Bool.{Bool, true, false, _&&_, not, false≢true}
 use mathlib.Core.List.{List, [], _∷_}
 use native.Mathlib.Nat.{mod-lt, pow-succ', div-div-eq-div-mul, div-one, le-of-suc-le-suc, not-suc-le-zero, sub-zero, suc-sub-suc}
 use native.Mathlib.Omega.{arith}
+use lib.Bits.{bitOr, and-le-l, and-le-r, or-add-and}
 use lib.Dec.{eqb, eqb·suc-zero}
 use lib.ListN.{length, getD, set, drop}
-use borrow.Author.Tests.{eq-eqb, ne-eqb}
+use borrow.Author.Tests.{eq-eqb, eqb-true, ne-eqb}
 use Rattle.pauli_word.specs.Word.{bit}
 use Rattle.pauli_word.specs.Bytes.{odd, lowBits, number, clear}
 
@@ -131,3 +132,17 @@ pub lowBits-clear : (k x : ℕ) → x < 2 ^ k → clear (lowBits k x) ≡ eqb x 
 unfolding lowBits clear
 lowBits-clear zero x h = let z : x ≡ 0 = omega arith in sym (eq-eqb x 0 z)
 lowBits-clear (suc k) x h = ap (λ (t : Bool). not (odd x) && t) (lowBits-clear k (x / 2) (omega arith)) ∙ clear-step x
+
+-- ---- two numbers put together by `or`
+
+false-eq : (x : ℕ) → eqb x 0 ≡ false → x ≡ 0 → ⊥
+false-eq x e z = false≢true (sym e ∙ eq-eqb x 0 z)
+
+-- no bit is set in both together exactly if none is set in either
+pub or-none : (a b : ℕ) → eqb (bitOr a b) 0 ≡ (eqb a 0 && eqb b 0)
+or-none a b = go (eqb a 0) refl (eqb b 0) refl
+  where
+    go : (x : Bool) → eqb a 0 ≡ x → (y : Bool) → eqb b 0 ≡ y → eqb (bitOr a b) 0 ≡ (x && y)
+    go true e true f = eq-eqb (bitOr a b) 0 (ap₂ bitOr (eqb-true a 0 e) (eqb-true b 0 f))
+    go true e false f = ne-eqb (bitOr a b) 0 (λ z. false-eq b f (let whole = or-add-and a b in omega (arith, and-le-l a b, and-le-r a b)))
+    go false e y f = ne-eqb (bitOr a b) 0 (λ z. false-eq a e (let whole = or-add-and a b in omega (arith, and-le-l a b, and-le-r a b)))

@@ -3,18 +3,19 @@
 use Prim.Native.Nat.{ℕ, zero, suc, _+_, _-_, _*_, _/_, _%_, _^_, _<_, _≤_}
 use mathlib.Core.Path.{_≡_, refl, sym, ap, ap₂, subst, _∙_}
 use mathlib.Core.Logic.{⊎-elim}
-use mathlib.Core.Bool.{Bool, true, false, _&&_, _||_}
+use mathlib.Core.Bool.{Bool, true, false, _&&_, _||_, and-assoc, and-true}
 use mathlib.Core.List.{List, [], _∷_, _++_, append-assoc}
 use native.Mathlib.Nat.{mod-lt, div-add-mod, le-of-suc-le-suc, not-suc-le-zero, le-of-lt, lt-of-lt-of-le, zero-div, suc-add, zero-add, one-mul, mod-eq-of-lt, min-le-left}
 use native.Mathlib.Numerals.{add-one}
 use native.Mathlib.Omega.{arith}
+use lib.Bits.{bitOr}
 use lib.Dec.{eqb}
 use lib.ListN.{length, getD, set, take, drop, length-append, length-take, drop-of-length-le, List·getD-append, List·getD-eq-default}
 use lib.Seq.{getD-append-add, set-append-left, set-out, set-getD, drop-append-add, drop-append-le, drop-cons, drop-nil, take-at, drop-at}
 use borrow.Author.Tests.{eq-eqb, ne-eqb}
 use lib.Pow.{pow-mono, pow-lt, shr-lt}
 use Rattle.pauli_word.specs.Bytes.{odd, lowBits, number, planeBits, planeOf, clear, clearFrom, Bytes, byteValues}
-use Rattle.pauli_word.proofs.Bits.{pad, odd-cases, lowBits-length, number-lowBits, lowBits-number, number-below, lowBits-at, lowBits-set, set-fits, lowBits-drop, lowBits-clear}
+use Rattle.pauli_word.proofs.Bits.{pad, odd-cases, lowBits-length, number-lowBits, lowBits-number, number-below, lowBits-at, lowBits-set, set-fits, lowBits-drop, lowBits-clear, or-none}
 
 pub position : (q : ℕ) → 8 * (q / 8) + q % 8 ≡ q
 position q = div-add-mod q 8
@@ -166,14 +167,10 @@ module _ (p : List ℕ) (n : ℕ) where
   unfolding clearFrom clear
   clearFrom-past l = ap clear (drop-of-length-le (planeBits p) (subst (λ (k : ℕ). k ≤ n) (sym (planeBits-length p)) (omega (arith, position n))))
 
-  pub clearFrom-set : Bytes p → n / 8 < length p → (getD p (n / 8) 0 / 2 ^ (n % 8) ≡ 0 → ⊥) → clearFrom n p ≡ false
-  clearFrom-set b l h = clearFrom-byte p n b l ∙ ap (λ (t : Bool). t && clear (planeBits (drop (suc (n / 8)) p))) (ne-eqb (getD p (n / 8) 0 / 2 ^ (n % 8)) 0 h)
-
-  pub clearFrom-rest : Bytes p → n / 8 < length p → getD p (n / 8) 0 / 2 ^ (n % 8) ≡ 0 → clearFrom n p ≡ clear (planeBits (drop (n / 8 + 1) p))
-  clearFrom-rest b l e =
-      clearFrom-byte p n b l
-      ∙ ap (λ (t : Bool). t && clear (planeBits (drop (suc (n / 8)) p))) (eq-eqb (getD p (n / 8) 0 / 2 ^ (n % 8)) 0 e)
-      ∙ ap (λ (k : ℕ). clear (planeBits (drop k p))) (sym (add-one (n / 8)))
+  -- the rest of byte n / 8, and the bytes after it
+  pub clearFrom-start : Bytes p → n / 8 < length p
+      → clearFrom n p ≡ (eqb (getD p (n / 8) 0 / 2 ^ (n % 8)) 0 && clear (planeBits (drop (n / 8 + 1) p)))
+  clearFrom-start b l = rw add-one (clearFrom-byte p n b l)
 
 clear-at : (p : List ℕ) (j : ℕ) → j < length p → getD p j 0 < byteValues → clear (planeBits (drop j p)) ≡ (eqb (getD p j 0) 0 && clear (planeBits (drop (suc j) p)))
 unfolding planeBits
@@ -182,18 +179,17 @@ clear-at p j l h =
     ∙ clear-append (lowBits 8 (getD p j 0)) (planeBits (drop (suc j) p))
     ∙ ap (λ (t : Bool). t && clear (planeBits (drop (suc j) p))) (lowBits-clear 8 (getD p j 0) h)
 
-pub clear-set : (p : List ℕ) (j : ℕ) → j < length p → getD p j 0 < byteValues → (getD p j 0 ≡ 0 → ⊥) → clear (planeBits (drop j p)) ≡ false
-clear-set p j l h f = clear-at p j l h ∙ ap (λ (t : Bool). t && clear (planeBits (drop (suc j) p))) (ne-eqb (getD p j 0) 0 f)
+-- bytes up to place j, put together by `or`, and those from there on
+module _ (p : List ℕ) (j any : ℕ) where
+  pub clear-more : j < length p → getD p j 0 < byteValues
+      → (eqb any 0 && clear (planeBits (drop j p))) ≡ (eqb (bitOr any (getD p j 0)) 0 && clear (planeBits (drop (j + 1) p)))
+  clear-more l h =
+      rw (add-one, or-none any (getD p j 0), clear-at p j l h)
+      (sym (and-assoc (eqb any 0) (eqb (getD p j 0) 0) (clear (planeBits (drop (suc j) p)))))
 
-pub clear-next : (p : List ℕ) (j : ℕ) → j < length p → getD p j 0 < byteValues → getD p j 0 ≡ 0 → clear (planeBits (drop j p)) ≡ clear (planeBits (drop (j + 1) p))
-clear-next p j l h e =
-    clear-at p j l h
-    ∙ ap (λ (t : Bool). t && clear (planeBits (drop (suc j) p))) (eq-eqb (getD p j 0) 0 e)
-    ∙ ap (λ (k : ℕ). clear (planeBits (drop k p))) (sym (add-one j))
-
-pub clear-end : (p : List ℕ) (j : ℕ) → length p ≤ j → clear (planeBits (drop j p)) ≡ true
-unfolding planeBits clear
-clear-end p j h = ap (λ (r : List ℕ). clear (planeBits r)) (drop-of-length-le p h)
+  pub clear-end : length p ≤ j → (eqb any 0 && clear (planeBits (drop j p))) ≡ eqb any 0
+  unfolding planeBits clear
+  clear-end h = rw (drop-of-length-le p h) (and-true (eqb any 0))
 
 -- ---- bits to bytes and back
 

@@ -118,7 +118,7 @@ clearFrom-planeOf m bs h = ap (λ (t : List Bool). clear (drop (length bs) t)) (
 
 -- ---- the two planes
 
-bytes-append : (p r : List ℕ) → Bytes p → Bytes r → Bytes (p ++ r)
+pub bytes-append : (p r : List ℕ) → Bytes p → Bytes r → Bytes (p ++ r)
 bytes-append [] r bp br = br
 bytes-append (x ∷ p) r bp br = (bp .0, bytes-append p r (bp .1) br)
 

@@ -1,12 +1,13 @@
 -- Words as bytes: the X plane and then the Z plane, m bytes each. Site q is bit q mod 8 of a plane's byte q div 8, least significant first.
--- The plane's length m is a parameter: a stored word has m = planeLength.
-use Prim.Native.Nat.{ℕ, zero, suc, _+_, _*_, _/_, _%_, _<_, _≤_}
+-- The plane's length m is a parameter: a word in full has m = planeLength, one of the old form m = oldPlaneLength.
+use Prim.Native.Nat.{ℕ, zero, suc, _+_, _-_, _*_, _/_, _%_, _<_, _≤_}
 use mathlib.Core.Path.{_≡_}
-use mathlib.Core.Bool.{Bool, true, false, _&&_, _||_, not}
+use mathlib.Core.Logic.{_⊎_}
+use mathlib.Core.Bool.{Bool, true, false, _&&_, _||_, not, cond}
 use mathlib.Core.List.{List, [], _∷_, _++_, map}
 use lib.Dec.{eqb}
-use lib.ListN.{length, getD, set, take, drop}
-use Rattle.pauli_word.specs.Limits.{planeLength}
+use lib.ListN.{length, getD, set, take, drop, replicate}
+use Rattle.pauli_word.specs.Limits.{planeLength, wordLength, oldPlaneLength, oldLength}
 use Rattle.pauli_word.specs.Word.{Word, xBit, zBit, letterOf, bit}
 
 abbrev pub odd : ℕ → Bool
@@ -46,11 +47,11 @@ decode m n bytes = lettersOf (take n (planeBits (take m bytes))) (take n (planeB
 unfoldable pub encode : ℕ → Word → List ℕ
 encode m w = planeOf m (map xBit w) ++ planeOf m (map zBit w)
 
--- the letters of n sites in the bytes of a stored word
+-- the letters of n sites in the bytes of a word in full
 abbrev pub lettersIn : ℕ → List ℕ → Word
 lettersIn n bytes = decode planeLength n bytes
 
--- the bytes of a stored word
+-- the bytes of a word in full
 abbrev pub bytesOf : Word → List ℕ
 bytesOf w = encode planeLength w
 
@@ -88,6 +89,32 @@ pub record Accepted (m n : ℕ) (bytes : List ℕ) : Type 0 where
   pub xClear : clearFrom n (take m bytes) ≡ true
   pub zClear : clearFrom n (drop m bytes) ≡ true
 
--- an accepted stored word
+-- an accepted word in full
 abbrev pub AcceptedWord : ℕ → List ℕ → Type 0
 AcceptedWord n bytes = Accepted planeLength n bytes
+
+-- ---- either form
+
+-- a plane with zeros after it, up to m bytes
+abbrev pub filledUp : ℕ → List ℕ → List ℕ
+filledUp m plane = plane ++ replicate (m - length plane) 0
+
+-- the word in full of two planes of h bytes: the bytes that a plane lacks are 0
+abbrev pub spread : ℕ → List ℕ → List ℕ
+spread h bytes = filledUp planeLength (take h bytes) ++ filledUp planeLength (drop h bytes)
+
+-- the bytes of a word in full: those of the old form are spread, and all others stay
+unfoldable pub inFull : List ℕ → List ℕ
+inFull bytes = cond (eqb (length bytes) oldLength) (spread oldPlaneLength bytes) bytes
+
+-- the letters of n sites that a list of bytes stands for, in either form
+abbrev pub wordIn : ℕ → List ℕ → Word
+wordIn n bytes = lettersIn n (inFull bytes)
+
+-- the length of a word in full, or of one of the old form
+abbrev pub EitherLength : ℕ → Type 0
+EitherLength k = (k ≡ wordLength) ⊎ (k ≡ oldLength)
+
+-- an accepted word, in full or of the old form
+abbrev pub EitherWord : ℕ → List ℕ → Type 0
+EitherWord n bytes = AcceptedWord n bytes ⊎ Accepted oldPlaneLength n bytes

@@ -1,38 +1,53 @@
 // What the calls come to once their checks have passed, and the checks of two words. Whoever calls a function here owes its `requires`.
 ghost use mathlib.Core.Path.{_≡_};
 ghost use Prim.Native.Nat.{_-_};
-ghost use mathlib.Core.List.{_++_};
-ghost use lib.ListN.{replicate};
+ghost use mathlib.Core.List.{[], _∷_, _++_};
+ghost use lib.ListN.{length, replicate};
 ghost use Rattle.pauli_word.specs.Limits.{maxSites};
 ghost use Rattle.outcome.specs.Outcome.{verdict, outcomeOfVerdict};
 ghost use Rattle.pauli_word.specs.Word.{weight};
-ghost use Rattle.pauli_word.specs.Bytes.{AcceptedWord, lettersIn};
+ghost use Rattle.pauli_word.specs.Bytes.{AcceptedWord, EitherLength, lettersIn};
 ghost use Rattle.pauli_word.specs.Text.{spell};
-ghost use Rattle.pauli_word.specs.Calls.{compareChecks};
+ghost use Rattle.pauli_word.specs.Calls.{bitAbove, compareChecks};
 use crate::MAX_SITES;
-use crate::WORD_BYTES;
 use crate::inner;
 use crate::letter;
 use outcome::Refusal;
 use outcome::Verdict;
 
-// The checks of two words of n sites: 1, 15 of either, 17 of either.
+// The checks of two words of n sites: 1, 15 of either, 36 of either, 17 of either.
 pub fn both_checked(n: usize, a: &[u8], b: &[u8]) -> Verdict
     ensures { λ r. ⌜ outcomeOfVerdict r ≡ verdict (compareChecks n (now (a .entry)) (now (b .entry))) ⌝ }
 {
     if MAX_SITES < n {
         return Verdict::Refused(Refusal::TooManySites);
     }
-    if a.len() != WORD_BYTES {
+    if !inner::either_length(a.len()) {
         return Verdict::Refused(Refusal::WordLength);
     }
-    if b.len() != WORD_BYTES {
+    if !inner::either_length(b.len()) {
         return Verdict::Refused(Refusal::WordLength);
     }
-    if let Verdict::Refused(why) = inner::checked(n, a) {
-        return Verdict::Refused(why);
+    if inner::past_old(n, a.len()) {
+        return Verdict::Refused(Refusal::OldWordSites);
     }
-    inner::checked(n, b)
+    if inner::past_old(n, b.len()) {
+        return Verdict::Refused(Refusal::OldWordSites);
+    }
+    both_clear(n, a, b)
+}
+
+// The last of them: 17 of either.
+pub fn both_clear(n: usize, a: &[u8], b: &[u8]) -> Verdict
+    requires { ⌜ EitherLength (length (now a)) × EitherLength (length (now b)) ⌝ }
+    ensures { λ r. ⌜ outcomeOfVerdict r ≡ verdict (bitAbove n (now (a .entry)) ∷ bitAbove n (now (b .entry)) ∷ []) ⌝ }
+{
+    if inner::clear_above(n, a) {
+        if inner::clear_above(n, b) {
+            return Verdict::Accepted;
+        }
+    }
+    Verdict::Refused(Refusal::BitAboveSites)
 }
 
 // The text of an accepted word, and zeros after it.

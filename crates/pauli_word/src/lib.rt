@@ -1,6 +1,9 @@
 // Pauli words: read from text, written as text, weighed and compared. A word has a site count n and its bytes, the X plane and then
 // the Z plane; site q is bit q mod 8 of a plane's byte q div 8. Letters by (X bit, Z bit): I 00, Z 01, X 10, Y 11.
 //
+// A word is handed over in either of two forms: in full, WORD_BYTES long, or as words were stored before, OLD_WORD_BYTES long, for at most
+// OLD_SITES sites; the bytes that a plane lacks are 0. A word is handed back in full.
+//
 // No call here asks anything of its caller: bad input is refused by number, and nothing else is answered with it.
 mod calls;
 pub mod inner;
@@ -17,13 +20,20 @@ ghost use Rattle.outcome.specs.Outcome.{onAnswer, outcomeOfNumber};
 ghost use Rattle.pauli_word.specs.Calls.{fromTextOutcome, fromTextBytes, toTextOutcome, toTextBytes, weightOutcome, outcomeOfComparison, compareOutcome};
 
 // The bytes of one plane.
-pub const PLANE_BYTES: usize = 32;
+pub const PLANE_BYTES: usize = 256;
 
 // The most sites of a word: a bit of a plane for each.
 pub const MAX_SITES: usize = 8 * PLANE_BYTES;
 
 // The bytes of a word: the X plane and then the Z plane.
 pub const WORD_BYTES: usize = 2 * PLANE_BYTES;
+
+// The bytes of one plane, the sites and the bytes of a word of the old form.
+pub const OLD_PLANE_BYTES: usize = 32;
+
+pub const OLD_SITES: usize = 8 * OLD_PLANE_BYTES;
+
+pub const OLD_WORD_BYTES: usize = 2 * OLD_PLANE_BYTES;
 
 // A word read from text: the site count beside the word, or why it is none, beside zeros.
 pub struct TextWord {
@@ -91,10 +101,13 @@ pub fn to_text(n: usize, word: &[u8]) -> WordText
             answer: Number::Refused(why),
             text: [0u8; MAX_SITES],
         },
-        Verdict::Accepted => WordText {
-            answer: Number::Value(n),
-            text: calls::spelled(n, word),
-        },
+        Verdict::Accepted => {
+            let full = inner::in_full(word);
+            WordText {
+                answer: Number::Value(n),
+                text: calls::spelled(n, &full),
+            }
+        }
     }
 }
 
@@ -104,17 +117,24 @@ pub fn weight(n: usize, word: &[u8]) -> Number
 {
     match inner::checked(n, word) {
         Verdict::Refused(why) => Number::Refused(why),
-        Verdict::Accepted => Number::Value(calls::weighed(n, word)),
+        Verdict::Accepted => {
+            let full = inner::in_full(word);
+            Number::Value(calls::weighed(n, &full))
+        }
     }
 }
 
-// How word a stands to word b, both of n sites: at the first bit that differs, reading the X plane from site 0 and then the Z plane, the lesser
+// How word a stands to word b, both of n sites, each in either form: at the first bit that differs, reading the X plane from site 0 and then the Z plane, the lesser
 // has 0.
 pub fn compare(n: usize, a: &[u8], b: &[u8]) -> Comparison
     ensures answer { λ r. ⌜ outcomeOfComparison r ≡ compareOutcome n (now (a .entry)) (now (b .entry)) ⌝ }
 {
     match calls::both_checked(n, a, b) {
         Verdict::Refused(why) => Comparison::Refused(why),
-        Verdict::Accepted => Comparison::Order(inner::compare_bytes(a, b)),
+        Verdict::Accepted => {
+            let left = inner::in_full(a);
+            let right = inner::in_full(b);
+            Comparison::Order(inner::compare_bytes(&left, &right))
+        }
     }
 }

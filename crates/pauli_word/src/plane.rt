@@ -33,7 +33,7 @@ pub fn or_bit(plane: &mut [u8], q: usize, b: bool)
     }
 }
 
-// Whether no bit at or above n is set.
+// Whether no bit at or above n is set. No branch for a byte, so that several are looked at in one step.
 pub fn clear_from(plane: &[u8], n: usize) -> bool
     ensures { λ r. ⌜ r ≡ clearFrom n (now (plane .entry)) ⌝ }
 {
@@ -41,17 +41,13 @@ pub fn clear_from(plane: &[u8], n: usize) -> bool
     if plane.len() <= first {
         return true;
     }
-    if plane[first] >> (n % 8) != 0 {
-        return false;
-    }
+    let mut any = plane[first] >> (n % 8);
     let mut j = first + 1;
     while j < plane.len() {
-        if plane[j] != 0 {
-            return false;
-        }
+        any = any | plane[j];
         j += 1;
     }
-    true
+    any == 0
 }
 
 // The length of the shorter of two slices.

@@ -2,7 +2,7 @@
 -- What carries the search: a target is marked exactly if it is among those that passed.
 use Prim.Native.Nat.{ℕ, suc, _≤_, _<_}
 use mathlib.Core.Path.{_≡_, refl, _∙_}
-use mathlib.Core.Bool.{Bool, true, false, _||_, cond}
+use mathlib.Core.Bool.{Bool, true, false, _||_, not, cond}
 use mathlib.Core.List.{List, [], _∷_}
 use native.Mathlib.Decide.{ℕ-discrete}
 use native.Mathlib.Omega.{arith}
@@ -11,7 +11,12 @@ use lib.ListN.{length, getD, drop, set, replicate, getD-replicate, drop-of-lengt
 use lib.Seq.{drop-cons, getD-set-same, getD-set-other}
 use borrow.Author.Tests.{le-leb, lt-leb, eq-eqb, ne-eqb}
 use Rattle.outcome.specs.declared.Refusal.the-variants as Refusal
+use Rattle.outcome.specs.Outcome.{Check}
 use Rattle.permutation.specs.Generators.{among, targetsCheck, fine, broke}
+
+-- whether a rule is not broken
+abbrev pub unbroken : Check → Bool
+unbroken check = not (check .broken)
 
 -- the check from target q on
 module _ (n i : ℕ) (passed perm : List ℕ) (q : ℕ) where

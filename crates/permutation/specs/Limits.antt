@@ -20,7 +20,7 @@ maxWide = 18446744073709551615
 
 -- the most different cycle lengths: k of them take k (k + 1) / 2 sites
 abbrev pub maxLengths : ℕ
-maxLengths = 22
+maxLengths = 63
 
 -- the places for targets in a group value
 abbrev pub targetPlaces : ℕ

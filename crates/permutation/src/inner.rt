@@ -1,6 +1,7 @@
 // Permutations of sites: the faults of a list of targets, pairs that do not commute, divisors and multiples, the product of orders. Whoever calls
 // a function here owes its `requires`.
 ghost use mathlib.Core.Path.{_≡_};
+ghost use mathlib.Core.Bool.{not};
 ghost use mathlib.Core.List.{[]};
 ghost use Prim.Native.Nat.{ℕ, _+_, _*_, _≤_, _<_};
 ghost use lib.ListN.{length, getD, take};
@@ -37,6 +38,27 @@ pub fn first_fault(generator: usize, perm: &[u32], sites: usize) -> Verdict
     Verdict::Accepted
 }
 
+// Whether stored targets are a permutation of the sites: none at fault in 6 or 7, whichever generator they are of.
+pub fn permutes(perm: &[u16], sites: usize) -> bool
+    requires { ⌜ sites ≤ maxSites ⌝ }
+    ensures { λ r. ⌜ ((generator : ℕ) → r ≡ not (targetsCheck sites generator [] (now (perm .entry)) .broken)) ⌝ }
+{
+    let mut seen = [0u8; MAX_SITES];
+    let mut q = 0;
+    while q < perm.len() {
+        let t = perm[q] as usize;
+        if sites <= t {
+            return false;
+        }
+        if seen[t] == 1 {
+            return false;
+        }
+        seen[t] = 1;
+        q += 1;
+    }
+    true
+}
+
 // The greatest common divisor.
 pub fn gcd(a: u64, b: u64) -> u64
     ensures { λ r. ⌜ r ≡ gcdOf a b ⌝ }
@@ -60,7 +82,7 @@ pub fn lcm(a: u64, b: u64) -> u64
 }
 
 // 11: the first two generators, left then right, that differ at some site when they are applied in either order.
-pub fn first_pair(targets: &[u32], generators: usize, sites: usize) -> Verdict
+pub fn first_pair(targets: &[u16], generators: usize, sites: usize) -> Verdict
     requires { ⌜ (length (now targets) ≡ targetPlaces) × (generators ≤ maxGenerators) × (sites ≤ maxSites) ⌝ }
     requires { ⌜ ((g q : ℕ) → g < generators → q < sites → getD (now targets) (maxSites * g + q) 0 < sites) ⌝ }
     ensures { λ r. ⌜ outcomeOfVerdict r ≡ alone (pairsCheck sites 0 (rowsOf generators sites (now (targets .entry)))) ⌝ }

@@ -15,7 +15,7 @@ pub const MAX_ORDER: usize = 1048576;
 pub const TARGET_PLACES: usize = MAX_GENERATORS * MAX_SITES;
 
 // The most different cycle lengths of a permutation of MAX_SITES sites.
-pub const MAX_LENGTHS: usize = 22;
+pub const MAX_LENGTHS: usize = 63;
 
 // The largest order of one generator, as it is declared in 32 bits.
 pub const MAX_DECLARED: u64 = 4294967295;

@@ -23,7 +23,7 @@ pub struct Span {
 }
 
 // The length of the cycle through start, whose sites are marked in seen.
-pub fn mark_cycle(perm: &[u32], start: usize, seen: &mut [u8]) -> usize
+pub fn mark_cycle(perm: &[u16], start: usize, seen: &mut [u8]) -> usize
     requires { ⌜ Permutes (length (now perm)) (now perm) ⌝ }
     requires { ⌜ start < length (now perm) ⌝ }
     requires { ⌜ length (now perm) ≤ length (now seen) ⌝ }
@@ -57,7 +57,7 @@ pub fn greater(a: usize, b: usize) -> usize
 
 // All cycle lengths: each cycle is walked once, until all sites are, and its length l marked at place l - 1. All marks are 0 before. Answers with
 // the shortest and the longest.
-pub fn cycle_lengths(perm: &[u32], marks: &mut [u8]) -> Span
+pub fn cycle_lengths(perm: &[u16], marks: &mut [u8]) -> Span
     requires { ⌜ (Permutes (length (now perm)) (now perm)) × (length (now perm) ≤ maxSites) × (length (now perm) ≤ length (now marks)) ⌝ }
     requires { ⌜ ((l : ℕ) → getD (now marks) l 0 ≡ 0) ⌝ }
     ensures marks { λ r. ⌜ now (marks .exit) ≡ lengthMarks (length (now (marks .entry))) (now (perm .entry)) ⌝ }
@@ -119,7 +119,7 @@ pub fn common_multiple(generator: usize, lengths: &[usize]) -> Number
 }
 
 // The exact order of a generator's permutation, or 9: all cycle lengths, equal ones struck out, the common multiple of those left.
-pub fn exact_order(generator: usize, perm: &[u32]) -> Number
+pub fn exact_order(generator: usize, perm: &[u16]) -> Number
     requires { ⌜ (Permutes (length (now perm)) (now perm)) × (length (now perm) ≤ maxSites) ⌝ }
     ensures { λ r. ⌜ outcomeOfNumber r ≡ exactOutcome generator (now (perm .entry)) ⌝ }
 {

@@ -10,10 +10,12 @@ use lib.ListN.{length, getD, List·getD-eq-default}
 use Rattle.outcome.specs.declared.Refusal.{Refusal}
 use Rattle.outcome.specs.Outcome.{answer, refusalOf, verdict, onAnswer}
 use Rattle.outcome.proofs.Outcomes.{call-refused, call-answers}
+use Rattle.pauli_word.specs.Word.{Word}
 use Rattle.pauli_word.specs.Bytes.{bytesOf}
 use Rattle.group.specs.declared.Group.{Group}
 use Rattle.group.specs.Value.{generatorsOf}
 use Rattle.keyed.specs.Keyed.{renamed}
+use Rattle.row_lists.specs.Rows.{rowSize, inFullBy, rowsInFull}
 use Rattle.row_words.specs.Words.{wordsFilled, filled}
 use Rattle.phases.specs.declared.PhaseTable.{PhaseTable}
 use Rattle.phases.specs.Rules.{turn, unit, InRange, cosine, sine, passes}
@@ -50,35 +52,41 @@ passing-lists t long also fine =
 module _ (t : PhaseTable) (g : Group) (ks : List ℤ) (words : List ℕ) (cs : List ℤ) (a b c : ℕ) where
   pub project-refused : (why : Refusal) → verdict (projectChecks t g ks words cs a b c) ≡ refusalOf why → projectOutcome t g ks words cs a b c ≡ refusalOf why
   unfolding projectOutcome
-  project-refused = call-refused (projectChecks t g ks words cs a b c) (answer (projectedSum t g ks (inputRows g words cs)))
+  project-refused =
+      call-refused (projectChecks t g ks words cs a b c) (answer (projectedSum t g ks (inputRows (g .sites) (rowsInFull (length cs) words) cs)))
 
-  module _ (pass : verdict (projectChecks t g ks words cs a b c) ≡ answer tt) where
-    project-answers : projectOutcome t g ks words cs a b c ≡ answer (projectedSum t g ks (inputRows g words cs))
+  -- by the rows in full of the size that the code has found
+  module _ (pass : verdict (projectChecks t g ks words cs a b c) ≡ answer tt) {size : ℕ} (sized : size ≡ rowSize (length words) (length cs)) where
+    abbrev rows : List (Word × ℤ)
+    rows = inputRows (g .sites) (inFullBy size (length cs) words) cs
+
+    project-answers : projectOutcome t g ks words cs a b c ≡ answer (projectedSum t g ks rows)
     unfolding projectOutcome
-    project-answers = call-answers (projectChecks t g ks words cs a b c) (answer (projectedSum t g ks (inputRows g words cs))) pass
+    project-answers =
+        rw sized
+        (call-answers (projectChecks t g ks words cs a b c) (answer (projectedSum t g ks (inputRows (g .sites) (rowsInFull (length cs) words) cs))) pass)
 
     -- the answer, by the rows that are kept
-    pub answered-counts : {kept : ℕ} → kept ≡ length (keptRows (generatorsOf g) ks (inputRows g words cs))
+    pub answered-counts : {kept : ℕ} → kept ≡ length (keptRows (generatorsOf g) ks rows)
         → answer (kept, length cs - kept) ≡ onAnswer countsOf (projectOutcome t g ks words cs a b c)
     unfolding projectedSum
     answered-counts {kept} e =
-        let rows = inputRows g words cs in
         let left : length cs - kept ≡ length (droppedRows (generatorsOf g) ks rows) =
-        omega (arith, counts-add (generatorsOf g) ks rows, input-length g words cs) in
+        omega (arith, counts-add (generatorsOf g) ks rows, input-length (g .sites) (inFullBy size (length cs) words) cs) in
         rw (e, rw e at left) (sym (ap (onAnswer countsOf) project-answers))
 
     -- the lists
-    pub answered-words : {out : List ℕ} (was : List ℕ) → out ≡ wordsFilled (length cs) (map (renamed bytesOf) (projected (t .cosines) (t .sines) (generatorsOf g) ks (inputRows g words cs)))
+    pub answered-words : {out : List ℕ} (was : List ℕ) → out ≡ wordsFilled (length cs) (map (renamed bytesOf) (projected (t .cosines) (t .sines) (generatorsOf g) ks rows))
         → out ≡ wordsAfter was (length cs) (projectOutcome t g ks words cs a b c)
     unfolding projectedSum
     answered-words was e = e ∙ sym (ap (wordsAfter was (length cs)) project-answers)
 
-    pub answered-cosines : {out : List ℤ} (was : List ℤ) → out ≡ filled (pos 0) (λ row. row .1 .0) (length cs) (projected (t .cosines) (t .sines) (generatorsOf g) ks (inputRows g words cs))
+    pub answered-cosines : {out : List ℤ} (was : List ℤ) → out ≡ filled (pos 0) (λ row. row .1 .0) (length cs) (projected (t .cosines) (t .sines) (generatorsOf g) ks rows)
         → out ≡ cosinesAfter was (length cs) (projectOutcome t g ks words cs a b c)
     unfolding projectedSum
     answered-cosines was e = e ∙ sym (ap (cosinesAfter was (length cs)) project-answers)
 
-    pub answered-sines : {out : List ℤ} (was : List ℤ) → out ≡ filled (pos 0) (λ row. row .1 .1) (length cs) (projected (t .cosines) (t .sines) (generatorsOf g) ks (inputRows g words cs))
+    pub answered-sines : {out : List ℤ} (was : List ℤ) → out ≡ filled (pos 0) (λ row. row .1 .1) (length cs) (projected (t .cosines) (t .sines) (generatorsOf g) ks rows)
         → out ≡ sinesAfter was (length cs) (projectOutcome t g ks words cs a b c)
     unfolding projectedSum
     answered-sines was e = e ∙ sym (ap (sinesAfter was (length cs)) project-answers)

@@ -1,39 +1,39 @@
 -- The checks of a projected sum, rule by rule, and what a pass has shown.
 -- What carries it: the first rule that is broken decides, and a pass breaks none.
-use Prim.Native.Nat.{ℕ, _%_, _<_, _≤_}
-use mathlib.Core.Path.{_≡_, sym, ap, _∙_}
+use Prim.Native.Nat.{ℕ, _%_, _<_}
+use mathlib.Core.Path.{_≡_, refl, sym, ap, _∙_}
 use mathlib.Core.Bool.{true, false}
 use mathlib.Core.List.{List, [], _∷_, _++_}
 use lib.Dec.{eqb}
 use lib.IntN.{ℤ, pos}
 use lib.ListN.{length, getD}
-use borrow.Author.Tests.{eq-eqb, ne-eqb, eqb-true, ltb-false, leb-true, not-false}
+use borrow.Author.Tests.{eq-eqb, ne-eqb, eqb-true, leb-true, not-false}
 use Rattle.outcome.specs.declared.Refusal.{Refusal}
 use Rattle.outcome.specs.declared.Refusal.the-variants as Refusal
 use Rattle.outcome.specs.Outcome.{Outcome, answer, refusalOf, verdict, given, Check}
 use Rattle.outcome.proofs.Outcomes.{verdict-fine, verdict-append, front-refused}
-use Rattle.pauli_word.specs.Limits.{maxSites}
 use Rattle.pauli_word.specs.Bytes.{Bytes}
-use Rattle.pauli_word.specs.Calls.{siteCount}
 use Rattle.action.specs.Sector.{modulus}
 use Rattle.action.proofs.Index.{valid-positive}
 use Rattle.action.proofs.Characters.{modulus-positive}
+use Rattle.elements.specs.HeldGroup.{generatorsIn, Tables}
 use Rattle.group.specs.declared.Group.{Group}
-use Rattle.group.specs.Value.{generatorsOf, notAGroup, AcceptedGroup}
+use Rattle.group.specs.Value.{generatorsOf, AcceptedGroup}
 use Rattle.group.specs.Calls.{valueChecks}
-use Rattle.group.proofs.MadeGroups.{held-valid}
+use Rattle.group.proofs.Accepted.{value-fine, accepted-tables}
 use Rattle.momentum.specs.Calls.{modeCount}
+use Rattle.row_lists.specs.Rows.{rowSize, rowsInFull}
 use Rattle.row_lists.specs.Checks.{listChecks}
-use Rattle.row_lists.proofs.ListChecks.{Agreeing, given-answered, lists-fine, own-fine, accepted-rows}
+use Rattle.row_lists.proofs.ListChecks.{Agreeing, agreed-size, given-answered, lists-fine, own-fine, accepted-rows}
 use Rattle.phases.specs.declared.PhaseTable.{PhaseTable}
 use Rattle.phases.specs.Rules.{turn, inRange, passes}
 use Rattle.phases.specs.Checks.{brokenTable}
 use Rattle.project.specs.Calls.{maxCoefficient, otherModulus, outOfRange, projectChecks}
 use Rattle.project.specs.Rows.{Sector, WholeRows}
 
--- the phase modulus of an accepted group is not 0
-pub modulus-above : (g : Group) → AcceptedGroup g → 0 < modulus (generatorsOf g)
-modulus-above g ok = modulus-positive (generatorsOf g) (valid-positive (held-valid g ok))
+-- the phase modulus of generators that tables hold is not 0
+pub modulus-above : {k n : ℕ} {targets orders : List ℕ} → Tables k n targets orders → 0 < modulus (generatorsIn k n targets orders)
+modulus-above {k} {n} {targets} {orders} held = modulus-positive (generatorsIn k n targets orders) (valid-positive (held .valid))
 
 -- ---- 33
 
@@ -72,10 +72,11 @@ module _ (t : PhaseTable) (g : Group) (ks : List ℤ) where
     two : (otherModulus g .broken ≡ false) × (verdict (brokenTable t ∷ []) ≡ answer tt)
     two = verdict-fine (otherModulus g) (brokenTable t ∷ []) (one .1)
 
-    sector-fine : AcceptedGroup g → Sector g ks
+    sector-fine : AcceptedGroup g → Sector (g .generators) (g .sites) (g .targets) (g .orders) ks
+    unfolding generatorsOf
     sector-fine ok =
         record {
-          group = ok;
+          tables = accepted-tables g ok;
           modes = eqb-true (length ks) (g .generators) (not-false (eqb (length ks) (g .generators)) (one .0));
           divides = eqb-true (turn % modulus (generatorsOf g)) 0 (not-false (eqb (turn % modulus (generatorsOf g)) 0) (two .0));
         }
@@ -84,9 +85,6 @@ module _ (t : PhaseTable) (g : Group) (ks : List ℤ) where
     table-fine = not-false (passes t) (verdict-fine (brokenTable t) [] (two .1) .0)
 
 -- ---- all checks: the value's, those of the modes and the table, and those of the lists
-
-pub value-few : (g : Group) → verdict (valueChecks g) ≡ answer tt → g .sites ≤ maxSites
-value-few g e = ltb-false maxSites (g .sites) (verdict-fine (siteCount (g .sites)) (notAGroup g ∷ []) e .0)
 
 module _ (t : PhaseTable) (g : Group) (ks : List ℤ) (words : List ℕ) (cs : List ℤ) (a b c : ℕ) where
   abbrev sector : List Check
@@ -122,20 +120,24 @@ module _ (t : PhaseTable) (g : Group) (ks : List ℤ) (words : List ℕ) (cs : L
     pub passed-value : verdict (valueChecks g) ≡ answer tt
     passed-value = parted .0
 
-    pub passed-sector : AcceptedGroup g → Sector g ks
+    pub passed-sector : AcceptedGroup g → Sector (g .generators) (g .sites) (g .targets) (g .orders) ks
     passed-sector ok = sector-fine t g ks (later .0) ok
 
     pub passed-table : passes t ≡ true
     passed-table = table-fine t g ks (later .0)
 
-    pub passed-lengths : Agreeing (length words) (length cs) a b c
+    pub passed-lengths : Agreeing (g .sites) (length words) (length cs) a b c
     passed-lengths = lists-fine outOfRange (g .sites) words cs a b c (later .1) .0
 
-    pub passed-rows : Bytes words → WholeRows g words cs
+    pub passed-rows : Bytes words → WholeRows (g .sites) (rowsInFull (length cs) words) cs
     passed-rows small =
         let rows = lists-fine outOfRange (g .sites) words cs a b c (later .1) .1 in
-        let short = value-few g passed-value in
+        let size : ℕ = rowSize (length words) (length cs) in
+        let (either, long) = agreed-size passed-lengths refl in
         record {
-          rows = accepted-rows outOfRange (pos 0) (g .sites) words cs rows short small (passed-lengths .wordsLong) (passed-lengths .few);
-          range = λ i h. leb-true _ _ (not-false (inRange maxCoefficient (getD cs i (pos 0))) (own-fine outOfRange (pos 0) (g .sites) words cs rows i h));
+          rows =
+              accepted-rows outOfRange (pos 0) (g .sites) size words cs either long rows (value-fine g passed-value .0) small (passed-lengths .few);
+          range = λ i h.
+              leb-true _ _
+              (not-false (inRange maxCoefficient (getD cs i (pos 0))) (own-fine outOfRange (pos 0) (g .sites) size words cs either long rows i h));
         }

@@ -17,6 +17,8 @@ use Rattle.action.specs.Permutation.{Generator, Valid}
 use Rattle.action.specs.Orbit.{least}
 use Rattle.action.specs.Sector.{keeps}
 use Rattle.action.proofs.Lists.{member-map, count-cong, count-places, count-select, of-member-below, of-member-map, of-member-select, member-at, of-member-at}
+use Rattle.action.proofs.Index.{valid-positive}
+use Rattle.action.proofs.Characters.{modulus-positive}
 use Rattle.group.specs.declared.Group.{Group}
 use Rattle.group.specs.Value.{generatorsOf, AcceptedGroup}
 use Rattle.group.proofs.MadeGroups.{held-valid}
@@ -45,8 +47,7 @@ use Rattle.projection.proofs.Bounds.{sum-bound}
 use Rattle.project.specs.Calls.{maxCoefficient, inputRows, projectedSum}
 use Rattle.project.specs.Rows.{maxPart, PhaseLists, WholeRows, turnedRows}
 use Rattle.project.specs.Promises.{wordAt, keepsRow, rowsWith, PartsWithin, ProjectedTable}
-use Rattle.project.proofs.ProjectChecks.{modulus-above}
-use Rattle.project.proofs.TurnedRows.{input-length, input-at}
+use Rattle.project.proofs.TurnedRows.{rowOf, input-length, input-at}
 
 -- ---- the input rows
 
@@ -54,24 +55,29 @@ use Rattle.project.proofs.TurnedRows.{input-length, input-at}
 abbrev noRow : Word × ℤ
 noRow = ([], pos 0)
 
-module _ (g : Group) (words : List ℕ) (cs : List ℤ) where
-  pub input-member : (i : ℕ) → i < length cs → Member (wordAt g words i, getD cs i (pos 0)) (inputRows g words cs)
-  input-member i h = rw (input-at g words cs i noRow h) at (member-at (inputRows g words cs) noRow i (rw (input-length g words cs) h))
+module _ (n : ℕ) (words : List ℕ) (cs : List ℤ) where
+  pub input-member : (i : ℕ) → i < length cs → Member (rowOf n words cs i) (inputRows n words cs)
+  input-member i h = rw (input-at n words cs i noRow h) at (member-at (inputRows n words cs) noRow i (rw (input-length n words cs) h))
 
-  pub of-input-member : (row : Word × ℤ) → Member row (inputRows g words cs) → (i : ℕ) × (i < length cs) × (row ≡ (wordAt g words i, getD cs i (pos 0)))
+  pub of-input-member : (row : Word × ℤ) → Member row (inputRows n words cs) → (i : ℕ) × (i < length cs) × (row ≡ rowOf n words cs i)
   of-input-member row m =
-      let (i, l, e) = of-member-at (inputRows g words cs) noRow row m in
-      let h : i < length cs = rw (input-length g words cs) at l in
-      (i, h, e ∙ input-at g words cs i noRow h)
+      let (i, l, e) = of-member-at (inputRows n words cs) noRow row m in
+      let h : i < length cs = rw (input-length n words cs) at l in
+      (i, h, e ∙ input-at n words cs i noRow h)
+
+  pub input-long : WholeRows n words cs → (row : Word × ℤ) → Member row (inputRows n words cs) → length (row .0) ≡ n
+  input-long whole row m =
+      let (i, h, e) = of-input-member row m in
+      ap (λ (r : Word × ℤ). length (r .0)) e ∙ decode-length (whole .rows .word i h)
 
 -- ---- the table
 
-module _ (t : PhaseTable) (g : Group) (ok : AcceptedGroup g) (ks : List ℤ) (words : List ℕ) (cs : List ℤ) (whole : WholeRows g words cs) where
+module _ (t : PhaseTable) (g : Group) (ok : AcceptedGroup g) (ks : List ℤ) (words : List ℕ) (cs : List ℤ) (whole : WholeRows (g .sites) words cs) where
   abbrev gs : List Generator
   gs = generatorsOf g
 
   abbrev rows : List (Word × ℤ)
-  rows = inputRows g words cs
+  rows = inputRows (g .sites) words cs
 
   valid : Valid (g .sites) gs
   valid = held-valid g ok
@@ -79,17 +85,17 @@ module _ (t : PhaseTable) (g : Group) (ok : AcceptedGroup g) (ks : List ℤ) (wo
   word-long : (i : ℕ) → i < length cs → length (wordAt g words i) ≡ g .sites
   word-long i h = decode-length (whole .rows .word i h)
 
-  pub input-long : (row : Word × ℤ) → Member row rows → length (row .0) ≡ g .sites
-  input-long row m = let (i, h, e) = of-input-member g words cs row m in ap (λ (r : Word × ℤ). length (r .0)) e ∙ word-long i h
+  rows-long : (row : Word × ℤ) → Member row rows → length (row .0) ≡ g .sites
+  rows-long = input-long (g .sites) words cs whole
 
   kept-count : length (keptRows gs ks rows) ≡ count (keepsRow g ks words) (below (length cs))
   unfolding keptRows
   kept-count =
       sym (count-select kept rows)
       ∙ sym (count-places kept noRow rows)
-      ∙ ap (λ (n : ℕ). count (λ q. kept (getD rows q noRow)) (below n)) (input-length g words cs)
+      ∙ ap (λ (n : ℕ). count (λ q. kept (getD rows q noRow)) (below n)) (input-length (g .sites) words cs)
       ∙ count-cong (λ q. kept (getD rows q noRow)) (keepsRow g ks words) (below (length cs))
-      (λ q m. ap kept (input-at g words cs q noRow (of-member-below (length cs) q m)))
+      (λ q m. ap kept (input-at (g .sites) words cs q noRow (of-member-below (length cs) q m)))
     where
       kept : Word × ℤ → Bool
       kept row = keeps gs ks (row .0)
@@ -97,28 +103,28 @@ module _ (t : PhaseTable) (g : Group) (ok : AcceptedGroup g) (ks : List ℤ) (wo
   pub table-projected : ProjectedTable t g ks words cs (projectedSum t g ks rows)
   unfolding projectedSum entryAt
   table-projected =
-      let words-of = projected-words (t .cosines) (t .sines) gs ks rows valid input-long in
+      let words-of = projected-words (t .cosines) (t .sines) gs ks rows valid rows-long in
       record {
         keptCount = kept-count;
-        allCounted = counts-add gs ks rows ∙ input-length g words cs;
+        allCounted = counts-add gs ks rows ∙ input-length (g .sites) words cs;
         inOrder = projected-rising (t .cosines) (t .sines) gs ks rows;
         fromInput = λ v m.
             let (row, l, kept, e) = words-of v .0 m in
-            let (i, h, f) = of-input-member g words cs row l in
+            let (i, h, f) = of-input-member (g .sites) words cs row l in
             (i, h, rw f at kept, e ∙ ap (λ (r : Word × ℤ). least gs (r .0)) f);
-        allInput = λ v r. let (i, h, kept, e) = r in words-of v .1 ((wordAt g words i, getD cs i (pos 0)), input-member g words cs i h, kept, e);
+        allInput = λ v r. let (i, h, kept, e) = r in words-of v .1 ((wordAt g words i, getD cs i (pos 0)), input-member (g .sites) words cs i h, kept, e);
         row = λ v p m.
             let key = member-map keyOf (projectedSum t g ks rows .table) (v, p) m in
             record {
-              long = projected-long (t .cosines) (t .sines) gs ks rows valid input-long v key;
-              canonical = projected-own (t .cosines) (t .sines) gs ks rows valid input-long v key;
-              kept = projected-kept (t .cosines) (t .sines) gs ks rows valid input-long v key;
+              long = projected-long (t .cosines) (t .sines) gs ks rows valid rows-long v key;
+              canonical = projected-own (t .cosines) (t .sines) gs ks rows valid rows-long v key;
+              kept = projected-kept (t .cosines) (t .sines) gs ks rows valid rows-long v key;
               sums = projected-sum (t .cosines) (t .sines) gs ks rows v p m;
             };
         whichIndex = λ i h kept j below e. sym (entry-which valid ks (wordAt g words i) (word-long i h) kept j below e);
-        few = projected-few (t .cosines) (t .sines) gs ks rows valid input-long;
-        none = projected-none (t .cosines) (t .sines) gs ks rows valid input-long;
-        later = projected-later (t .cosines) (t .sines) gs ks rows valid input-long;
+        few = projected-few (t .cosines) (t .sines) gs ks rows valid rows-long;
+        none = projected-none (t .cosines) (t .sines) gs ks rows valid rows-long;
+        later = projected-later (t .cosines) (t .sines) gs ks rows valid rows-long;
       }
 
   -- ---- its parts
@@ -145,13 +151,13 @@ module _ (t : PhaseTable) (g : Group) (ok : AcceptedGroup g) (ks : List ℤ) (wo
       (λ row. row .1 *ℤ getD (take turn numbers) (entryOf gs ks (row .0)) (pos 0)) own
       (λ row m.
       ap (λ (z : ℤ). row .1 *ℤ z)
-      (sym (getD-take turn numbers (entryOf gs ks (row .0)) (pos 0) (word-below gs ks (modulus-above g ok) (row .0))))))
+      (sym (getD-take turn numbers (entryOf gs ks (row .0)) (pos 0) (word-below gs ks (modulus-positive gs (valid-positive valid)) (row .0))))))
 
   own-small : (v : Word) (row : Word × ℤ) → Member row (rowsWith g ks words cs v) → InRange maxCoefficient (row .1)
   unfolding rowsOf
   own-small v row m =
       let (l, passes) = of-member-select (λ r. keeps gs ks (r .0) && same (least gs (r .0)) v) rows row m in
-      let (i, h, e) = of-input-member g words cs row l in
+      let (i, h, e) = of-input-member (g .sites) words cs row l in
       rw e (whole .range i h)
 
   sum-range : (numbers : List ℤ) → RangeOf numbers → (v : Word) → InRange (length cs * maxPart) (sumAlong numbers gs ks (rowsWith g ks words cs v))
@@ -162,7 +168,7 @@ module _ (t : PhaseTable) (g : Group) (ok : AcceptedGroup g) (ks : List ℤ) (wo
         arith,
         sum-bound gs ks maxCoefficient unit (take turn numbers) (cut-range numbers inside) own (own-small v),
         rows-few gs ks v rows,
-        input-length g words cs,
+        input-length (g .sites) words cs,
       ))
 
   -- each part is at most as large as if every row had this representative, the largest coefficient and the largest number
@@ -174,20 +180,20 @@ module _ (t : PhaseTable) (g : Group) (ok : AcceptedGroup g) (ks : List ℤ) (wo
 
 -- ---- what the turned rows add, and their words
 
-module _ (cosines sines : List ℤ) (lists : PhaseLists cosines sines) (g : Group) (ok : AcceptedGroup g) (ks : List ℤ) (words : List ℕ) (cs : List ℤ)
-    (whole : WholeRows g words cs) where
+module _ (cosines sines : List ℤ) (lists : PhaseLists cosines sines) {n : ℕ} {gs : List Generator} (valid : Valid n gs) (ks : List ℤ) (words : List ℕ)
+    (cs : List ℤ) (whole : WholeRows n words cs) where
   abbrev turnedAll : List (Word × Parts)
-  turnedAll = turnedRows cosines sines (generatorsOf g) ks (inputRows g words cs)
+  turnedAll = turnedRows cosines sines gs ks (inputRows n words cs)
 
-  pub turned-in : (row : Word × Parts) → Member row (turnedRows cosines sines (generatorsOf g) ks (inputRows g words cs))
+  pub turned-in : (row : Word × Parts) → Member row (turnedRows cosines sines gs ks (inputRows n words cs))
       → InRange maxPart (row .1 .0) × InRange maxPart (row .1 .1)
   unfolding keptRows turnedRow turned
   turned-in row m =
-      let (r, n, e) = of-member-map (turnedRow cosines sines (generatorsOf g) ks) (keptRows (generatorsOf g) ks (inputRows g words cs)) row m in
-      let inside = of-member-select (λ r. keeps (generatorsOf g) ks (r .0)) (inputRows g words cs) r n .0 in
-      let (i, h, f) = of-input-member g words cs r inside in
+      let (r, l, e) = of-member-map (turnedRow cosines sines gs ks) (keptRows gs ks (inputRows n words cs)) row m in
+      let inside = of-member-select (λ r. keeps gs ks (r .0)) (inputRows n words cs) r l .0 in
+      let (i, h, f) = of-input-member n words cs r inside in
       let small : InRange maxCoefficient (r .1) = rw f (whole .range i h) in
-      let at : ℕ = entryOf (generatorsOf g) ks (r .0) in
+      let at : ℕ = entryOf gs ks (r .0) in
       rw e (
         product-range maxCoefficient unit (r .1) (getD cosines at (pos 0)) small (lists .cosinesIn at),
         product-range maxCoefficient unit (r .1) (getD sines at (pos 0)) small (lists .sinesIn at),
@@ -196,7 +202,5 @@ module _ (cosines sines : List ℤ) (lists : PhaseLists cosines sines) (g : Grou
   pub turned-at : (j : ℕ) → j < length turnedAll → InRange maxPart (getD turnedAll j ([], noParts) .1 .0) × InRange maxPart (getD turnedAll j ([], noParts) .1 .1)
   turned-at j h = turned-in (getD turnedAll j ([], noParts)) (member-at turnedAll ([], noParts) j h)
 
-  pub turned-long : (w : Word) → Member w (map keyOf turnedAll) → length w ≡ g .sites
-  turned-long =
-      Projected.input-long cosines sines (generatorsOf g) ks (inputRows g words cs) (held-valid g ok)
-      (λ row m. let (i, h, e) = of-input-member g words cs row m in ap (λ (r : Word × ℤ). length (r .0)) e ∙ decode-length (whole .rows .word i h))
+  pub turned-long : (w : Word) → Member w (map keyOf turnedAll) → length w ≡ n
+  turned-long = Projected.input-long cosines sines gs ks (inputRows n words cs) valid (input-long n words cs whole)

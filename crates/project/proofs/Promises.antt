@@ -1,12 +1,12 @@
 -- What is promised of a projected sum by the outcome of its call, for a group that accepted generators give, any bytes and any phase table: each
--- statement is followed by the law that shows it.
+-- statement is followed by the law that shows it. Words are handed in full or in the old form, and read in full (`rowsInFull`).
 --
 -- 1 What an answer has checked, 2 An answered sum, 3 The output lists, 4 How large the parts are, 5 Modes that are all 0, 6 Words moved by a
--- generator, 7 Two rows of one word, 8 Refusals, 9 Tables that are never refused.
-use Prim.Native.Nat.{ℕ, suc, _+_, _*_, _/_, _%_, _^_, _<_}
+-- generator, 7 Two rows of one word, 8 Refusals, 9 Tables that are never refused, 10 Rows of the old form.
+use Prim.Native.Nat.{ℕ, suc, _+_, _*_, _/_, _%_, _^_, _≤_, _<_}
 use native.Mathlib.Nat.{dvd-of-mod-eq-zero}
 use native.Mathlib.Omega.{arith}
-use mathlib.Core.Path.{_≡_, refl, sym, ap, subst, _∙_}
+use mathlib.Core.Path.{_≡_, refl, sym, ap, ap₂, subst, _∙_}
 use mathlib.Core.Logic.{_⊎_, inl, inr}
 use mathlib.Core.Bool.{Bool, true, false, not, cond}
 use mathlib.Core.List.{List, [], _∷_, _++_, map}
@@ -15,8 +15,10 @@ use lib.ListN.{length, getD}
 use Rattle.outcome.specs.declared.Refusal.the-variants as Refusal
 use Rattle.outcome.specs.Outcome.{Outcome, refused, answer, refusalOf, Check, verdict, given, unless}
 use Rattle.outcome.proofs.Outcomes.{refused-apart, verdict-append, call-answers, unless-answer}
+use Rattle.pauli_word.specs.Limits.{oldLength, oldSites}
 use Rattle.pauli_word.specs.Word.{Word}
-use Rattle.pauli_word.specs.Bytes.{Bytes}
+use Rattle.pauli_word.specs.Bytes.{lettersIn, Bytes, wordIn}
+use Rattle.pauli_word.specs.Calls.{pastOld}
 use Rattle.action.specs.Lists.{Member, below}
 use Rattle.action.specs.Orbit.{orbit, isIn, least}
 use Rattle.action.specs.Sector.{modulus, reduced, keeps}
@@ -30,9 +32,11 @@ use Rattle.group.proofs.Accepted.{value-passes}
 use Rattle.momentum.specs.Calls.{modeCount}
 use Rattle.momentum.proofs.GivenGroups.{given-accepted, given-valid, given-length, given-sites}
 use Rattle.keyed.specs.Keyed.{keyOf}
-use Rattle.row_lists.specs.Rows.{maxRows, rowsIn}
-use Rattle.row_lists.specs.Checks.{rowChecks, listChecks}
-use Rattle.row_lists.proofs.ListChecks.{Agreeing}
+use Rattle.row_lists.specs.Rows.{maxRows, rowBy, rowSize, rowsIn, rowsInFull}
+use Rattle.row_lists.specs.Checks.{rowsAgree, rowChecks, listChecks}
+use Rattle.row_lists.proofs.InFull.{size-either, size-long, full-row}
+use Rattle.row_lists.proofs.ListChecks.{Agreeing, lengths-old, lists-refused}
+use Rattle.row_lists.proofs.Meanings.{full-once, checks-in-full, old-checks}
 use Rattle.phases.specs.declared.PhaseTable.{PhaseTable}
 use Rattle.phases.specs.Table.{phaseTable}
 use Rattle.phases.specs.Rules.{turn, unit, cosine, sine, PhaseRange, PhaseRules, passes}
@@ -58,8 +62,18 @@ use Rattle.project.specs.Calls.{
   sinesAfter,
 }
 use Rattle.project.specs.Rows.{maxPart, Sector, WholeRows}
-use Rattle.project.specs.Promises.{keepsRow, rowsWith, noGenerator, generatorAt, movedBy, turnsBy, PartsWithin, ProjectedTable, OutputLists}
-use Rattle.project.proofs.ProjectChecks.{sectorChecks, table-breaks, sector-refused, passed-sector, passed-table, passed-lengths, passed-rows}
+use Rattle.project.specs.Promises.{wordAt, keepsRow, rowsWith, noGenerator, generatorAt, movedBy, turnsBy, PartsWithin, ProjectedTable, OutputLists}
+use Rattle.project.proofs.ProjectChecks.{
+  sectorChecks,
+  table-breaks,
+  table-passes,
+  sector-refused,
+  lists-decide,
+  passed-sector,
+  passed-table,
+  passed-lengths,
+  passed-rows,
+}
 use Rattle.project.proofs.ProjectCalls.{project-refused}
 use Rattle.project.proofs.ProjectedSums.{input-long, table-projected, table-parts}
 use Rattle.project.proofs.OutputLists.{lists-hold}
@@ -71,12 +85,16 @@ largest-part = refl
 
 module _ (t : PhaseTable) (g : Group) (ks : List ℤ) (words : List ℕ) (cs : List ℤ) (a b c : ℕ)
     (s : ProjectedSum) (answered : projectOutcome t g ks words cs a b c ≡ answer s) where
-  -- an answer comes after checks that pass, and is what the rows come to
-  passed : (verdict (projectChecks t g ks words cs a b c) ≡ answer tt) × (projectedSum t g ks (inputRows g words cs) ≡ s)
-  unfolding projectOutcome
-  passed = unless-answer (projectChecks t g ks words cs a b c) (projectedSum t g ks (inputRows g words cs)) s answered
+  -- the words of the rows, in full
+  abbrev full : List ℕ
+  full = rowsInFull (length cs) words
 
-  table-is : projected (t .cosines) (t .sines) (generatorsOf g) ks (inputRows g words cs) ≡ s .table
+  -- an answer comes after checks that pass, and is what the rows come to
+  passed : (verdict (projectChecks t g ks words cs a b c) ≡ answer tt) × (projectedSum t g ks (inputRows (g .sites) full cs) ≡ s)
+  unfolding projectOutcome
+  passed = unless-answer (projectChecks t g ks words cs a b c) (projectedSum t g ks (inputRows (g .sites) full cs)) s answered
+
+  table-is : projected (t .cosines) (t .sines) (generatorsOf g) ks (inputRows (g .sites) full cs) ≡ s .table
   unfolding projectedSum
   table-is = ap (λ (r : ProjectedSum). r .table) (passed .1)
 
@@ -84,11 +102,11 @@ module _ (t : PhaseTable) (g : Group) (ks : List ℤ) (words : List ℕ) (cs : L
     -- ---- 1 What an answer has checked
 
     -- there is a mode for each generator, and the phase modulus divides a turn
-    pub answered-sector : Sector g ks
+    pub answered-sector : Sector (g .generators) (g .sites) (g .targets) (g .orders) ks
     answered-sector = passed-sector t g ks words cs a b c (passed .0) (given-accepted g by)
 
-    -- the five lists have as many rows, and there are few enough
-    pub answered-lists : Agreeing (length words) (length cs) a b c
+    -- the five lists have as many rows, words of the old form have few enough sites, and there are few enough rows
+    pub answered-lists : Agreeing (g .sites) (length words) (length cs) a b c
     answered-lists = passed-lengths t g ks words cs a b c (passed .0)
 
     -- the table has its numbers in their range, and keeps the rules
@@ -99,13 +117,13 @@ module _ (t : PhaseTable) (g : Group) (ks : List ℤ) (words : List ℕ) (cs : L
     answered-rules = passes-rules t (passed-table t g ks words cs a b c (passed .0))
 
     -- each row has a word of the sites and a coefficient in its range
-    pub answered-rows : WholeRows g words cs
+    pub answered-rows : WholeRows (g .sites) full cs
     answered-rows = passed-rows t g ks words cs a b c (passed .0) small
 
     -- ---- 2 An answered sum: strictly rising representatives of the kept rows, each with the exact sums of what its rows add
 
-    pub answered-table : ProjectedTable t g ks words cs s
-    answered-table = subst (ProjectedTable t g ks words cs) (passed .1) (table-projected t g (given-accepted g by) ks words cs answered-rows)
+    pub answered-table : ProjectedTable t g ks full cs s
+    answered-table = subst (ProjectedTable t g ks full cs) (passed .1) (table-projected t g (given-accepted g by) ks full cs answered-rows)
 
     -- ---- 3 The output lists: the rows of the sum and zeros after them, and where the rows end
 
@@ -122,7 +140,7 @@ module _ (t : PhaseTable) (g : Group) (ks : List ℤ) (words : List ℕ) (cs : L
     -- ---- 4 How large the parts are: a row adds at most the largest coefficient times a unit, and as many rows as there may be stay inside 64 bits
 
     pub answered-parts : (v : Word) (p : Parts) → Member (v, p) (s .table) → PartsWithin (length cs * maxPart) p
-    answered-parts v p m = table-parts t g (given-accepted g by) ks words cs answered-rows answered-range v p (rw (passed .1) m)
+    answered-parts v p m = table-parts t g (given-accepted g by) ks full cs answered-rows answered-range v p (rw (passed .1) m)
 
     pub answered-inside : (v : Word) (p : Parts) → Member (v, p) (s .table) → PartsWithin (2 ^ 62) p
     answered-inside v p m = omega (arith, answered-parts v p m, answered-lists .few)
@@ -133,17 +151,17 @@ module _ (t : PhaseTable) (g : Group) (ks : List ℤ) (words : List ℕ) (cs : L
       pub zero-modes-kept : s .kept ≡ length cs
       zero-modes-kept =
           answered-table .keptCount
-          ∙ count-cong (keepsRow g ks words) (λ i. true) (below (length cs)) (λ i m. keeps-zero-modes (generatorsOf g) ks zeros _)
+          ∙ count-cong (keepsRow g ks full) (λ i. true) (below (length cs)) (λ i m. keeps-zero-modes (generatorsOf g) ks zeros _)
           ∙ count-true (below (length cs))
           ∙ length-below (length cs)
 
       pub zero-modes-dropped : s .dropped ≡ 0
       zero-modes-dropped = omega (arith, answered-table .allCounted, zero-modes-kept)
 
-      pub zero-modes-sums : (v : Word) (p : Parts) → Member (v, p) (s .table) → p ≡ (pos unit *ℤ sumOf (rowsWith g ks words cs v), pos 0)
+      pub zero-modes-sums : (v : Word) (p : Parts) → Member (v, p) (s .table) → p ≡ (pos unit *ℤ sumOf (rowsWith g ks full cs v), pos 0)
       unfolding cosine sine
       zero-modes-sums v p m =
-          projected-zero-modes (t .cosines) (t .sines) (generatorsOf g) ks (inputRows g words cs) zeros (pos unit) (answered-rules .firstCosine)
+          projected-zero-modes (t .cosines) (t .sines) (generatorsOf g) ks (inputRows (g .sites) full cs) zeros (pos unit) (answered-rules .firstCosine)
           (answered-rules .firstSine) v p (rw table-is m)
 
 -- ---- 6 Words moved by a generator
@@ -183,7 +201,8 @@ module _ (t : PhaseTable) (g : Group) (ks : List ℤ) (words : List ℕ) (cs : L
     (words′ : List ℕ) (cs′ : List ℤ) (a′ b′ c′ : ℕ) (s′ : ProjectedSum) (answered′ : projectOutcome t g ks words′ cs′ a′ b′ c′ ≡ answer s′) where
   pub one-word-table :
       (w : Word) (x y : ℤ) (xs ys zs : List (Word × ℤ))
-      → inputRows g words cs ≡ xs ++ ((w, x) ∷ (ys ++ ((w, y) ∷ zs))) → inputRows g words′ cs′ ≡ xs ++ ((w, x +ℤ y) ∷ (ys ++ zs))
+      → inputRows (g .sites) (rowsInFull (length cs) words) cs ≡ xs ++ ((w, x) ∷ (ys ++ ((w, y) ∷ zs)))
+      → inputRows (g .sites) (rowsInFull (length cs′) words′) cs′ ≡ xs ++ ((w, x +ℤ y) ∷ (ys ++ zs))
       → s .table ≡ s′ .table
   one-word-table w x y xs ys zs parted joined =
       let table : List (Word × ℤ) → List (Word × Parts) = projected (t .cosines) (t .sines) (generatorsOf g) ks in
@@ -191,7 +210,7 @@ module _ (t : PhaseTable) (g : Group) (ks : List ℤ) (words : List ℕ) (cs : L
       sym (table-is t g ks words cs a b c s answered)
       ∙ ap table parted
       ∙ one-word (t .cosines) (t .sines) (generatorsOf g) ks (given-valid g by) w x y xs ys zs
-      (λ row m. input-long t g (given-accepted g by) ks words cs rows row (rw parted m))
+      (λ row m. input-long (g .sites) (rowsInFull (length cs) words) cs rows row (rw parted m))
       ∙ ap table (sym joined)
       ∙ table-is t g ks words′ cs′ a′ b′ c′ s′ answered′
 
@@ -235,17 +254,21 @@ with-rows n rows front k m = go (of-member-append front (map (λ c. c .number) (
     go (inl l) = member-append-left front (17 ∷ 33 ∷ []) k l
     go (inr l) = member-append-right front (17 ∷ 33 ∷ []) k (row-numbers n 0 rows k l)
 
+-- a group that accepted generators give passes its checks
+given-passes : (g : Group) → GivenBy g → verdict (valueChecks g) ≡ answer tt
+given-passes g by = value-passes g (given-accepted g by .few) (given-accepted g by .isOne)
+
 module _ (t : PhaseTable) (g : Group) (ks : List ℤ) (words : List ℕ) (cs : List ℤ) (a b c : ℕ) where
   -- nothing that passes the checks is refused
   pub passing-answered : verdict (projectChecks t g ks words cs a b c) ≡ answer tt
-      → projectOutcome t g ks words cs a b c ≡ answer (projectedSum t g ks (inputRows g words cs))
+      → projectOutcome t g ks words cs a b c ≡ answer (projectedSum t g ks (inputRows (g .sites) (rowsInFull (length cs) words) cs))
   unfolding projectOutcome
-  passing-answered = call-answers (projectChecks t g ks words cs a b c) (answer (projectedSum t g ks (inputRows g words cs)))
+  passing-answered = call-answers (projectChecks t g ks words cs a b c) (answer (projectedSum t g ks (inputRows (g .sites) (rowsInFull (length cs) words) cs)))
 
   module _ (k : ℕ) (vs : List ℕ) (no : projectOutcome t g ks words cs a b c ≡ refused k vs) where
     checks-no : verdict (projectChecks t g ks words cs a b c) ≡ refused k vs
     unfolding projectOutcome
-    checks-no = checks-refuse (projectChecks t g ks words cs a b c) (projectedSum t g ks (inputRows g words cs)) k vs no
+    checks-no = checks-refuse (projectChecks t g ks words cs a b c) (projectedSum t g ks (inputRows (g .sites) (rowsInFull (length cs) words) cs)) k vs no
 
     -- the output lists are as they were
     pub refused-output : (was : List ℕ) (xs ys : List ℤ) (n : ℕ)
@@ -254,41 +277,90 @@ module _ (t : PhaseTable) (g : Group) (ks : List ℤ) (words : List ℕ) (cs : L
     refused-output was xs ys n = rw no (refl, refl, refl)
 
     -- a refusal is by one of these rules
-    pub refused-by : Member k (1 ∷ 14 ∷ 18 ∷ 32 ∷ 35 ∷ 22 ∷ 23 ∷ 17 ∷ 33 ∷ [])
+    pub refused-by : Member k (1 ∷ 14 ∷ 18 ∷ 32 ∷ 35 ∷ 22 ∷ 23 ∷ 36 ∷ 17 ∷ 33 ∷ [])
     refused-by =
-        with-rows (g .sites) (rowsIn words cs) (1 ∷ 14 ∷ 18 ∷ 32 ∷ 35 ∷ 22 ∷ 23 ∷ []) k (verdict-number (projectChecks t g ks words cs a b c) k vs checks-no)
+        with-rows (g .sites) (rowsIn (rowsInFull (length cs) words) cs) (1 ∷ 14 ∷ 18 ∷ 32 ∷ 35 ∷ 22 ∷ 23 ∷ 36 ∷ []) k
+        (verdict-number (projectChecks t g ks words cs a b c) k vs checks-no)
 
     -- and by neither of the first two for a group that accepted generators give
-    pub refused-given : GivenBy g → Member k (18 ∷ 32 ∷ 35 ∷ 22 ∷ 23 ∷ 17 ∷ 33 ∷ [])
+    pub refused-given : GivenBy g → Member k (18 ∷ 32 ∷ 35 ∷ 22 ∷ 23 ∷ 36 ∷ 17 ∷ 33 ∷ [])
     refused-given by =
         let later : List Check = sectorChecks t g ks ++ listChecks outOfRange (g .sites) words cs a b c in
-        let fine = value-passes g (given-accepted g by .few) (given-accepted g by .isOne) in
-        with-rows (g .sites) (rowsIn words cs) (18 ∷ 32 ∷ 35 ∷ 22 ∷ 23 ∷ []) k
+        let fine = given-passes g by in
+        with-rows (g .sites) (rowsIn (rowsInFull (length cs) words) cs) (18 ∷ 32 ∷ 35 ∷ 22 ∷ 23 ∷ 36 ∷ []) k
         (verdict-number later k vs
         (sym (verdict-append (valueChecks g) later ∙ ap (λ (v : Outcome (Unit {0})). given v (verdict later)) fine) ∙ checks-no))
 
     -- and, with a table that passes its tests, never by 35
-    pub passing-by : passes t ≡ true → Member k (1 ∷ 14 ∷ 18 ∷ 32 ∷ 22 ∷ 23 ∷ 17 ∷ 33 ∷ [])
+    pub passing-by : passes t ≡ true → Member k (1 ∷ 14 ∷ 18 ∷ 32 ∷ 22 ∷ 23 ∷ 36 ∷ 17 ∷ 33 ∷ [])
     passing-by fine =
         let front : List Check = valueChecks g ++ (modeCount g ks ∷ otherModulus g ∷ []) in
         let rest : List Check = listChecks outOfRange (g .sites) words cs a b c in
         let skipped = skip-fine front (brokenTable t) rest (ap not fine) in
-        with-rows (g .sites) (rowsIn words cs) (1 ∷ 14 ∷ 18 ∷ 32 ∷ 22 ∷ 23 ∷ []) k (verdict-number (front ++ rest) k vs (sym skipped ∙ checks-no))
+        with-rows (g .sites) (rowsIn (rowsInFull (length cs) words) cs) (1 ∷ 14 ∷ 18 ∷ 32 ∷ 22 ∷ 23 ∷ 36 ∷ []) k
+        (verdict-number (front ++ rest) k vs (sym skipped ∙ checks-no))
 
   -- a table that does not is refused, whatever the lists are
   pub broken-refused : GivenBy g → length ks ≡ g .generators → turn % modulus (generatorsOf g) ≡ 0 → passes t ≡ false
       → projectOutcome t g ks words cs a b c ≡ refusalOf Refusal.PhaseRule
   broken-refused by long divides broken =
       project-refused t g ks words cs a b c Refusal.PhaseRule
-      (sector-refused t g ks words cs a b c (value-passes g (given-accepted g by .few) (given-accepted g by .isOne)) Refusal.PhaseRule
+      (sector-refused t g ks words cs a b c (given-passes g by) Refusal.PhaseRule
       (table-breaks t g ks long divides broken))
 
 -- ---- 9 Tables that are never refused: the constant one, and the one that stands after a file was read, whatever the file holds
 
 module _ (g : Group) (ks : List ℤ) (words : List ℕ) (cs : List ℤ) (a b c k : ℕ) (vs : List ℕ) where
-  pub constant-by : projectOutcome phaseTable g ks words cs a b c ≡ refused k vs → Member k (1 ∷ 14 ∷ 18 ∷ 32 ∷ 22 ∷ 23 ∷ 17 ∷ 33 ∷ [])
+  pub constant-by : projectOutcome phaseTable g ks words cs a b c ≡ refused k vs → Member k (1 ∷ 14 ∷ 18 ∷ 32 ∷ 22 ∷ 23 ∷ 36 ∷ 17 ∷ 33 ∷ [])
   constant-by e = passing-by phaseTable g ks words cs a b c k vs e constant-passes
 
   pub read-by : (file : List ℕ) → projectOutcome (tableAfter (fileOutcome file)) g ks words cs a b c ≡ refused k vs
-      → Member k (1 ∷ 14 ∷ 18 ∷ 32 ∷ 22 ∷ 23 ∷ 17 ∷ 33 ∷ [])
+      → Member k (1 ∷ 14 ∷ 18 ∷ 32 ∷ 22 ∷ 23 ∷ 36 ∷ 17 ∷ 33 ∷ [])
   read-by file e = passing-by (tableAfter (fileOutcome file)) g ks words cs a b c k vs e (after-passes file)
+
+-- ---- 10 Rows of the old form: each stands for its word, and their sum comes to what the sum of the same rows in full comes to
+
+-- the letters of row i are those that its bytes stand for, in either form
+pub row-letters : (g : Group) (words : List ℕ) (k : ℕ) → length words ≡ rowSize (length words) k * k → (i : ℕ) → i < k
+    → wordAt g (rowsInFull k words) i ≡ wordIn (g .sites) (rowBy (rowSize (length words) k) words i)
+row-letters g words k long i h =
+    ap (lettersIn (g .sites)) (full-row (rowSize (length words) k) (size-either (length words) k) k words long i h)
+
+module _ (t : PhaseTable) (g : Group) (ks : List ℤ) (words : List ℕ) (cs : List ℤ) (a b c : ℕ) where
+  same-outcome : length words ≡ rowSize (length words) (length cs) * length cs
+      → listChecks outOfRange (g .sites) (rowsInFull (length cs) words) cs a b c ≡ listChecks outOfRange (g .sites) words cs a b c
+      → projectOutcome t g ks words cs a b c ≡ projectOutcome t g ks (rowsInFull (length cs) words) cs a b c
+  unfolding projectOutcome
+  same-outcome long checks =
+      ap₂
+      (λ (lists : List Check) (full : List ℕ).
+      unless (valueChecks g ++ (sectorChecks t g ks ++ lists)) (answer (projectedSum t g ks (inputRows (g .sites) full cs))))
+      (sym checks)
+      (sym (full-once (length cs) words long))
+
+  -- words of either form, whatever their bytes
+  pub in-full-same : length words ≡ rowSize (length words) (length cs) * length cs → pastOld (g .sites) (rowSize (length words) (length cs)) ≡ false
+      → projectOutcome t g ks words cs a b c ≡ projectOutcome t g ks (rowsInFull (length cs) words) cs a b c
+  in-full-same long fits = same-outcome long (checks-in-full outOfRange (g .sites) words cs a b c long fits)
+
+  -- words of the old form
+  pub old-same : length words ≡ oldLength * length cs → g .sites ≤ oldSites
+      → projectOutcome t g ks words cs a b c ≡ projectOutcome t g ks (rowsInFull (length cs) words) cs a b c
+  old-same long few = same-outcome (size-long (length words) (length cs) (inr long)) (old-checks outOfRange (g .sites) words cs a b c long few)
+
+  -- so what is answered is answered of the words in full
+  pub answered-in-full : (s : ProjectedSum) → projectOutcome t g ks words cs a b c ≡ answer s
+      → projectOutcome t g ks (rowsInFull (length cs) words) cs a b c ≡ answer s
+  answered-in-full s answered =
+      let lists = passed-lengths t g ks words cs a b c (passed t g ks words cs a b c s answered .0) in
+      sym (in-full-same (lists .wordsLong) (lists .fits)) ∙ answered
+
+  -- and rows of the old form with more sites than it has are refused, whatever their bytes
+  pub old-refused : GivenBy g → length ks ≡ g .generators → turn % modulus (generatorsOf g) ≡ 0 → passes t ≡ true
+      → rowsAgree (length words) (length cs) a b c ≡ true → length cs ≤ maxRows → pastOld (g .sites) (rowSize (length words) (length cs)) ≡ true
+      → projectOutcome t g ks words cs a b c ≡ refusalOf Refusal.OldWordSites
+  old-refused by long divides fine agree few past =
+      project-refused t g ks words cs a b c Refusal.OldWordSites
+      (lists-decide t g ks words cs a b c (given-passes g by) (table-passes t g ks long divides fine)
+      ∙ lists-refused outOfRange (g .sites) words cs a b c Refusal.OldWordSites
+      (lengths-old (g .sites) (length words) (length cs) a b c agree few past))

@@ -1,6 +1,6 @@
 -- The rows turned one after the other, and what the lists hold of them.
 -- The fact that carries it: one row more is put behind the kept rows, or is none of them (`next-kept`, `next-dropped`).
-use Prim.Native.Nat.{ℕ, suc, _+_, _*_, _≤_, _<_}
+use Prim.Native.Nat.{ℕ, _+_, _*_, _≤_, _<_}
 use mathlib.Core.Path.{_≡_, refl, sym, ap, _∙_}
 use mathlib.Core.Bool.{Bool, true, false, cond}
 use mathlib.Core.List.{List, [], _∷_, _++_, map, append-nil}
@@ -17,8 +17,6 @@ use Rattle.pauli_word.proofs.Words.{map-append, encode-length}
 use Rattle.action.specs.Lists.{select}
 use Rattle.action.specs.Permutation.{Generator}
 use Rattle.action.specs.Sector.{keeps}
-use Rattle.group.specs.declared.Group.{Group}
-use Rattle.group.specs.Value.{generatorsOf}
 use Rattle.keyed.specs.Keyed.{renamed}
 use Rattle.keyed.proofs.Folds.{select-append}
 use Rattle.keyed.proofs.Tables.{getD-map}
@@ -32,29 +30,29 @@ use Rattle.project.specs.Rows.{turnedRows, TurnedRows}
 
 -- ---- the input rows
 
-module _ (g : Group) (words : List ℕ) (cs : List ℤ) where
+module _ (n : ℕ) (words : List ℕ) (cs : List ℤ) where
   -- row i: the letters of its word, and its coefficient
   abbrev pub rowOf : ℕ → Word × ℤ
-  rowOf i = (lettersIn (g .sites) (rowAt words i), getD cs i (pos 0))
+  rowOf i = (lettersIn n (rowAt words i), getD cs i (pos 0))
 
-  pub input-length : length (inputRows g words cs) ≡ length cs
+  pub input-length : length (inputRows n words cs) ≡ length cs
   unfolding inputRows
-  input-length = length-map (rowsIn words cs) (renamed (lettersIn (g .sites))) ∙ rows-length words cs
+  input-length = length-map (rowsIn words cs) (renamed (lettersIn n)) ∙ rows-length words cs
 
-  pub input-at : (i : ℕ) (d : Word × ℤ) → i < length cs → getD (inputRows g words cs) i d ≡ rowOf i
+  pub input-at : (i : ℕ) (d : Word × ℤ) → i < length cs → getD (inputRows n words cs) i d ≡ rowOf i
   unfolding inputRows
   input-at i d h =
-      getD-map (renamed (lettersIn (g .sites))) (rowsIn words cs) i d ([], pos 0) (omega (arith, rows-length words cs))
-      ∙ ap (renamed (lettersIn (g .sites))) (rows-at words cs i (pos 0) ([], pos 0) h)
+      getD-map (renamed (lettersIn n)) (rowsIn words cs) i d ([], pos 0) (omega (arith, rows-length words cs))
+      ∙ ap (renamed (lettersIn n)) (rows-at words cs i (pos 0) ([], pos 0) h)
 
-  pub input-next : (i : ℕ) → i < length cs → take (i + 1) (inputRows g words cs) ≡ take i (inputRows g words cs) ++ (rowOf i ∷ [])
+  pub input-next : (i : ℕ) → i < length cs → take (i + 1) (inputRows n words cs) ≡ take i (inputRows n words cs) ++ (rowOf i ∷ [])
   input-next i h =
-      ap (λ (k : ℕ). take k (inputRows g words cs)) (add-one i)
-      ∙ take-suc (inputRows g words cs) i (rowOf i) (omega (arith, input-length))
-      ∙ ap (λ (row : Word × ℤ). take i (inputRows g words cs) ++ (row ∷ [])) (input-at i (rowOf i) h)
+      ap (λ (k : ℕ). take k (inputRows n words cs)) (add-one i)
+      ∙ take-suc (inputRows n words cs) i (rowOf i) (omega (arith, input-length))
+      ∙ ap (λ (row : Word × ℤ). take i (inputRows n words cs) ++ (row ∷ [])) (input-at i (rowOf i) h)
 
-  pub input-all : (i : ℕ) → length cs ≤ i → take i (inputRows g words cs) ≡ inputRows g words cs
-  input-all i h = take-all i (inputRows g words cs) (omega (arith, input-length))
+  pub input-all : (i : ℕ) → length cs ≤ i → take i (inputRows n words cs) ≡ inputRows n words cs
+  input-all i h = take-all i (inputRows n words cs) (omega (arith, input-length))
 
 -- ---- one row more
 
@@ -123,39 +121,39 @@ module _ {rows : List (Word × Parts)} {words : List ℕ} {xs ys : List ℤ} (he
 -- ---- the loop over the rows
 
 -- the kept rows of the first i, turned
-abbrev pub turnedFirst : Group → List ℤ → List ℕ → List ℤ → List ℤ → List ℤ → ℕ → List (Word × Parts)
-turnedFirst g ks words cs cosines sines i = turnedRows cosines sines (generatorsOf g) ks (take i (inputRows g words cs))
+abbrev pub turnedFirst : ℕ → List Generator → List ℤ → List ℕ → List ℤ → List ℤ → List ℤ → ℕ → List (Word × Parts)
+turnedFirst n gs ks words cs cosines sines i = turnedRows cosines sines gs ks (take i (inputRows n words cs))
 
 -- the kept rows of the first i are turned, and stand in the lists
-pub record Turning (g : Group) (ks : List ℤ) (words : List ℕ) (cs cosines sines : List ℤ) (i kept : ℕ) (out : List ℕ) (xs ys : List ℤ) : Type 0 where
+pub record Turning (n : ℕ) (gs : List Generator) (ks : List ℤ) (words : List ℕ) (cs cosines sines : List ℤ) (i kept : ℕ) (out : List ℕ) (xs ys : List ℤ) : Type 0 where
   pub upto : i ≤ length cs
   pub outLong : length out ≡ wordLength * length cs
   pub xsLong : length xs ≡ maxRows
   pub ysLong : length ys ≡ maxRows
-  pub many : kept ≡ length (turnedFirst g ks words cs cosines sines i)
-  pub held : TurnedRows (turnedFirst g ks words cs cosines sines i) out xs ys
+  pub many : kept ≡ length (turnedFirst n gs ks words cs cosines sines i)
+  pub held : TurnedRows (turnedFirst n gs ks words cs cosines sines i) out xs ys
 
-module _ {g : Group} {ks : List ℤ} {words : List ℕ} {cs cosines sines : List ℤ} {out : List ℕ} {xs ys : List ℤ} where
-  pub turning-start : length out ≡ wordLength * length cs → length xs ≡ maxRows → length ys ≡ maxRows → Turning g ks words cs cosines sines 0 0 out xs ys
+module _ {n : ℕ} {gs : List Generator} {ks : List ℤ} {words : List ℕ} {cs cosines sines : List ℤ} {out : List ℕ} {xs ys : List ℤ} where
+  pub turning-start : length out ≡ wordLength * length cs → length xs ≡ maxRows → length ys ≡ maxRows → Turning n gs ks words cs cosines sines 0 0 out xs ys
   unfolding keptRows select
   turning-start long xsLong ysLong =
       record { upto = omega arith; outLong = long; xsLong = xsLong; ysLong = ysLong; many = refl; held = no-rows out xs ys }
 
-  module _ {i kept : ℕ} (t : Turning g ks words cs cosines sines i kept out xs ys) where
+  module _ {i kept : ℕ} (t : Turning n gs ks words cs cosines sines i kept out xs ys) where
     pub turning-end : length cs ≤ i
-        → (kept ≡ length (turnedRows cosines sines (generatorsOf g) ks (inputRows g words cs)))
-        × TurnedRows (turnedRows cosines sines (generatorsOf g) ks (inputRows g words cs)) out xs ys
+        → (kept ≡ length (turnedRows cosines sines gs ks (inputRows n words cs)))
+        × TurnedRows (turnedRows cosines sines gs ks (inputRows n words cs)) out xs ys
     turning-end h =
-        let all : take i (inputRows g words cs) ≡ inputRows g words cs = input-all g words cs i h in (
-          t .many ∙ ap (λ (rows : List (Word × ℤ)). length (turnedRows cosines sines (generatorsOf g) ks rows)) all,
+        let all : take i (inputRows n words cs) ≡ inputRows n words cs = input-all n words cs i h in (
+          t .many ∙ ap (λ (rows : List (Word × ℤ)). length (turnedRows cosines sines gs ks rows)) all,
           rw all at (t .held),
         )
 
     module _ (more : i < length cs) (few : length cs ≤ maxRows) where
       kept-before : kept ≤ i
       kept-before =
-          let long = length-take-le i (inputRows g words cs) (omega (arith, input-length g words cs)) in
-          omega (arith, t .many, turned-few cosines sines (generatorsOf g) ks (take i (inputRows g words cs)))
+          let long = length-take-le i (inputRows n words cs) (omega (arith, input-length n words cs)) in
+          omega (arith, t .many, turned-few cosines sines gs ks (take i (inputRows n words cs)))
 
       pub out-room : wordLength * kept + wordLength ≤ length out
       out-room = omega (arith, t .outLong, kept-before)
@@ -163,11 +161,11 @@ module _ {g : Group} {ks : List ℤ} {words : List ℕ} {cs cosines sines : List
       pub kept-small : kept < maxRows
       kept-small = omega (arith, kept-before)
 
-      turning-dropped : keeps (generatorsOf g) ks (rowOf g words cs i .0) ≡ false → Turning g ks words cs cosines sines (i + 1) kept out xs ys
+      turning-dropped : keeps gs ks (rowOf n words cs i .0) ≡ false → Turning n gs ks words cs cosines sines (i + 1) kept out xs ys
       turning-dropped k =
-          let same : turnedFirst g ks words cs cosines sines (i + 1) ≡ turnedFirst g ks words cs cosines sines i =
-          ap (turnedRows cosines sines (generatorsOf g) ks) (input-next g words cs i more)
-          ∙ next-dropped cosines sines (generatorsOf g) ks (take i (inputRows g words cs)) (rowOf g words cs i) k in
+          let same : turnedFirst n gs ks words cs cosines sines (i + 1) ≡ turnedFirst n gs ks words cs cosines sines i =
+          ap (turnedRows cosines sines gs ks) (input-next n words cs i more)
+          ∙ next-dropped cosines sines gs ks (take i (inputRows n words cs)) (rowOf n words cs i) k in
           record {
             upto = omega arith;
             outLong = t .outLong;
@@ -177,16 +175,16 @@ module _ {g : Group} {ks : List ℤ} {words : List ℕ} {cs cosines sines : List
             held = rw same (t .held);
           }
 
-      turning-kept : {bytes : List ℕ} {x y : ℤ} → keeps (generatorsOf g) ks (rowOf g words cs i .0) ≡ true
-          → let row = turnedRow cosines sines (generatorsOf g) ks (rowOf g words cs i) in
+      turning-kept : {bytes : List ℕ} {x y : ℤ} → keeps gs ks (rowOf n words cs i .0) ≡ true
+          → let row = turnedRow cosines sines gs ks (rowOf n words cs i) in
           bytes ≡ bytesOf (row .0) → x ≡ row .1 .0 → y ≡ row .1 .1
-          → Turning g ks words cs cosines sines (i + 1) (kept + 1) (withRow out kept bytes) (set xs kept x) (set ys kept y)
+          → Turning n gs ks words cs cosines sines (i + 1) (kept + 1) (withRow out kept bytes) (set xs kept x) (set ys kept y)
       turning-kept k eb ex ey =
-          let row : Word × Parts = turnedRow cosines sines (generatorsOf g) ks (rowOf g words cs i) in
-          let before : List (Word × Parts) = turnedFirst g ks words cs cosines sines i in
-          let next : turnedFirst g ks words cs cosines sines (i + 1) ≡ before ++ (row ∷ []) =
-          ap (turnedRows cosines sines (generatorsOf g) ks) (input-next g words cs i more)
-          ∙ next-kept cosines sines (generatorsOf g) ks (take i (inputRows g words cs)) (rowOf g words cs i) k in
+          let row : Word × Parts = turnedRow cosines sines gs ks (rowOf n words cs i) in
+          let before : List (Word × Parts) = turnedFirst n gs ks words cs cosines sines i in
+          let next : turnedFirst n gs ks words cs cosines sines (i + 1) ≡ before ++ (row ∷ []) =
+          ap (turnedRows cosines sines gs ks) (input-next n words cs i more)
+          ∙ next-kept cosines sines gs ks (take i (inputRows n words cs)) (rowOf n words cs i) k in
           let long : length (bytesOf (row .0)) ≡ wordLength = encode-length planeLength (row .0) in
           rw (eb, ex, ey)
           record {
@@ -202,10 +200,10 @@ module _ {g : Group} {ks : List ℤ} {words : List ℕ} {cs cosines sines : List
 
       -- the next row, as it is kept or not
       pub turning-next :
-          {bytes : List ℕ} {x y : ℤ} {kept′ : ℕ} {out′ : List ℕ} {xs′ ys′ : List ℤ} (b : Bool) → b ≡ keeps (generatorsOf g) ks (rowOf g words cs i .0)
-          → let row = turnedRow cosines sines (generatorsOf g) ks (rowOf g words cs i) in
+          {bytes : List ℕ} {x y : ℤ} {kept′ : ℕ} {out′ : List ℕ} {xs′ ys′ : List ℤ} (b : Bool) → b ≡ keeps gs ks (rowOf n words cs i .0)
+          → let row = turnedRow cosines sines gs ks (rowOf n words cs i) in
           (b ≡ true → (bytes ≡ bytesOf (row .0)) × (x ≡ row .1 .0) × (y ≡ row .1 .1))
           → kept′ ≡ cond b (kept + 1) kept → out′ ≡ cond b (withRow out kept bytes) out → xs′ ≡ cond b (set xs kept x) xs → ys′ ≡ cond b (set ys kept y) ys
-          → Turning g ks words cs cosines sines (i + 1) kept′ out′ xs′ ys′
+          → Turning n gs ks words cs cosines sines (i + 1) kept′ out′ xs′ ys′
       turning-next true e same ek eo e1 e2 = let (eb, ex, ey) = same refl in rw (ek, eo, e1, e2) (turning-kept (sym e) eb ex ey)
       turning-next false e same ek eo e1 e2 = rw (ek, eo, e1, e2) (turning-dropped (sym e))

@@ -16,7 +16,7 @@ use Rattle.group.specs.Value.{generatorsOf}
 use Rattle.group.specs.Calls.{valueChecks}
 use Rattle.momentum.specs.Calls.{modeCount}
 use Rattle.keyed.specs.Keyed.{renamed}
-use Rattle.row_lists.specs.Rows.{rowsIn}
+use Rattle.row_lists.specs.Rows.{rowsIn, rowsInFull}
 use Rattle.row_lists.specs.Checks.{listChecks}
 use Rattle.row_words.specs.Words.{wordsFilled, filled}
 use Rattle.phases.specs.declared.PhaseTable.{PhaseTable}
@@ -30,7 +30,7 @@ use Rattle.project.specs.declared.Projection.the-variants as Projection
 abbrev pub maxCoefficient : ℕ
 maxCoefficient = 2 ^ 20
 
--- ---- the checks: 1, 14, 18, 32, 35, 22, 23, and then the rows in order, each for 17 and 33
+-- ---- the checks: 1, 14, 18, 32, 35, 22, 23, 36, and then the rows in order, each for 17 and 33
 
 -- 32: the phase modulus does not divide the entries of a phase table
 abbrev pub otherModulus : Group → Check
@@ -47,9 +47,9 @@ projectChecks t g ks words cs leasts cosines sines =
 
 -- ---- the sum
 
--- the rows of the sum, each word by its letters
-unfoldable pub inputRows : Group → List ℕ → List ℤ → List (Word × ℤ)
-inputRows g words cs = map (renamed (lettersIn (g .sites))) (rowsIn words cs)
+-- the rows of a sum of n sites whose words are in full, each word by its letters
+unfoldable pub inputRows : ℕ → List ℕ → List ℤ → List (Word × ℤ)
+inputRows n words cs = map (renamed (lettersIn n)) (rowsIn words cs)
 
 -- what comes out: how many rows have a kept orbit, how many a dropped one, and each representative of a kept row with its sum
 pub record ProjectedSum : Type 0 where
@@ -67,7 +67,7 @@ projectedSum t g ks rows =
 
 unfoldable pub projectOutcome : PhaseTable → Group → List ℤ → List ℕ → List ℤ → ℕ → ℕ → ℕ → Outcome ProjectedSum
 projectOutcome t g ks words cs leasts cosines sines =
-    unless (projectChecks t g ks words cs leasts cosines sines) (answer (projectedSum t g ks (inputRows g words cs)))
+    unless (projectChecks t g ks words cs leasts cosines sines) (answer (projectedSum t g ks (inputRows (g .sites) (rowsInFull (length cs) words) cs)))
 
 -- ---- the answer, and the output lists afterwards: as they were on a refusal; else the rows of the table, and zeros after them, k in all
 

@@ -1,4 +1,5 @@
 -- What is promised of a projected sum: how many rows are kept, which words the result has, what each comes to, and what the output lists hold.
+-- The words of the input rows are in full; of rows that are handed in either form they are `rowsInFull`.
 use Prim.Native.Nat.{ℕ, _+_, _*_, _/_, _≤_, _<_}
 use mathlib.Core.Path.{_≡_}
 use mathlib.Core.Logic.{_↔_}
@@ -38,7 +39,7 @@ Represents g ks words cs v =
 
 -- the kept input rows whose representative is v, in input order
 abbrev pub rowsWith : Group → List ℤ → List ℕ → List ℤ → Word → List (Word × ℤ)
-rowsWith g ks words cs v = rowsOf (generatorsOf g) ks v (inputRows g words cs)
+rowsWith g ks words cs v = rowsOf (generatorsOf g) ks v (inputRows (g .sites) words cs)
 
 -- what stands in the place of no generator
 abbrev pub noGenerator : Generator

@@ -9,8 +9,7 @@ use Rattle.pauli_word.specs.Word.{Word}
 use Rattle.pauli_word.specs.Bytes.{bytesOf}
 use Rattle.action.specs.Permutation.{Generator}
 use Rattle.action.specs.Sector.{modulus}
-use Rattle.group.specs.declared.Group.{Group}
-use Rattle.group.specs.Value.{generatorsOf, AcceptedGroup}
+use Rattle.elements.specs.HeldGroup.{generatorsIn, Tables}
 use Rattle.keyed.specs.Keyed.{Fold, byPlace}
 use Rattle.row_lists.specs.Rows.{rowAt}
 use Rattle.row_lists.specs.Checks.{AcceptedRows}
@@ -39,15 +38,15 @@ pub record PhaseLists (cosines sines : List ℤ) : Type 0 where
   pub cosinesIn : (e : ℕ) → InRange unit (getD cosines e (pos 0))
   pub sinesIn : (e : ℕ) → InRange unit (getD sines e (pos 0))
 
--- an accepted group, a mode for each generator, and a phase modulus that divides a turn
-pub record Sector (g : Group) (ks : List ℤ) : Type 0 where
-  pub group : AcceptedGroup g
-  pub modes : length ks ≡ g .generators
-  pub divides : turn % modulus (generatorsOf g) ≡ 0
+-- tables that hold the k generators of a group of n sites, a mode for each, and a phase modulus that divides a turn
+pub record Sector (k n : ℕ) (targets orders : List ℕ) (ks : List ℤ) : Type 0 where
+  pub tables : Tables k n targets orders
+  pub modes : length ks ≡ k
+  pub divides : turn % modulus (generatorsIn k n targets orders) ≡ 0
 
--- accepted rows, with coefficients in their range
-pub record WholeRows (g : Group) (words : List ℕ) (cs : List ℤ) : Type 0 where
-  pub rows : AcceptedRows (g .sites) words (length cs)
+-- accepted rows of n sites, their words in full, with coefficients in their range
+pub record WholeRows (n : ℕ) (words : List ℕ) (cs : List ℤ) : Type 0 where
+  pub rows : AcceptedRows n words (length cs)
   pub range : (i : ℕ) → i < length cs → InRange maxCoefficient (getD cs i (pos 0))
 
 -- a row of a kept orbit is turned

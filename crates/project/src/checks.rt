@@ -1,23 +1,25 @@
-// The checks of a projected sum: 1, 14, 18, 32, 35, 22, 23, and then its rows in order, each for 17 and 33. Whoever calls a function here owes its
+// The checks of a projected sum: 1, 14, 18, 32, 35, 22, 23, 36, and then its rows in order, each for 17 and 33. Whoever calls a function here owes its
 // `requires`.
 ghost use mathlib.Core.Path.{_≡_};
 ghost use mathlib.Core.List.{[], _∷_};
-ghost use Prim.Native.Nat.{_*_, _≤_, _<_};
+ghost use Prim.Native.Nat.{_*_, _<_};
 ghost use lib.IntN.{pos};
 ghost use lib.ListN.{length, getD};
-ghost use Rattle.outcome.specs.Outcome.{outcomeOfVerdict, verdict};
-ghost use Rattle.pauli_word.specs.Limits.{maxSites, wordLength};
-ghost use Rattle.group.specs.Value.{AcceptedGroup};
+ghost use Rattle.outcome.specs.Outcome.{answer, outcomeOfVerdict, verdict};
+ghost use Rattle.pauli_word.specs.Bytes.{EitherLength, inFull};
+ghost use Rattle.group.specs.Value.{groupIn};
+ghost use Rattle.group.specs.Calls.{valueChecks};
 ghost use Rattle.momentum.specs.Calls.{modeCount};
-ghost use Rattle.row_lists.specs.Rows.{rowAt, rowsIn};
+ghost use Rattle.row_lists.specs.Rows.{rowBy, rowsIn, inFullBy};
 ghost use Rattle.row_lists.specs.Checks.{rowRules, rowChecks, listChecks};
 ghost use Rattle.phases.specs.Rules.{inRange};
 ghost use Rattle.phases.specs.Checks.{brokenTable};
 ghost use Rattle.project.specs.Calls.{maxCoefficient, otherModulus, outOfRange, projectChecks};
 use crate::MAX_COEFFICIENT;
-use group::Group;
 use outcome::Refusal;
 use outcome::Verdict;
+use permutation::MAX_GENERATORS;
+use permutation::TARGET_PLACES;
 use phases::PHASES;
 use phases::PhaseTable;
 
@@ -31,14 +33,19 @@ pub fn in_range(coefficient: i64) -> bool
     coefficient <= MAX_COEFFICIENT
 }
 
-// The checks of row i: 17, 33.
-pub fn row_checked(sites: usize, words: &[u8], coefficients: &[i64], i: usize) -> Verdict
-    requires { ⌜ sites ≤ maxSites ⌝ }
-    requires { ⌜ length (now words) ≡ wordLength * length (now coefficients) ⌝ }
+// The checks of row i, of rows of this many bytes: 17, 33.
+pub fn row_checked(
+    sites: usize,
+    words: &[u8],
+    size: usize,
+    coefficients: &[i64],
+    i: usize,
+) -> Verdict
+    requires { ⌜ EitherLength size × (length (now words) ≡ size * length (now coefficients)) ⌝ }
     requires { ⌜ i < length (now coefficients) ⌝ }
-    ensures { λ r. ⌜ outcomeOfVerdict r ≡ verdict (rowRules sites i (rowAt (now (words .entry)) i) (outOfRange i (getD (now (coefficients .entry)) i (pos 0)))) ⌝ }
+    ensures { λ r. ⌜ outcomeOfVerdict r ≡ verdict (rowRules sites i (inFull (rowBy size (now (words .entry)) i)) (outOfRange i (getD (now (coefficients .entry)) i (pos 0)))) ⌝ }
 {
-    match row_lists::checks::word_checked(sites, words, i) {
+    match row_lists::checks::word_checked(sites, words, size, i) {
         Verdict::Refused(why) => Verdict::Refused(why),
         Verdict::Accepted => {
             if in_range(coefficients[i]) {
@@ -51,14 +58,13 @@ pub fn row_checked(sites: usize, words: &[u8], coefficients: &[i64], i: usize) -
 }
 
 // The checks of the rows, in their order.
-pub fn rows_checked(sites: usize, words: &[u8], coefficients: &[i64]) -> Verdict
-    requires { ⌜ sites ≤ maxSites ⌝ }
-    requires { ⌜ length (now words) ≡ wordLength * length (now coefficients) ⌝ }
-    ensures { λ r. ⌜ outcomeOfVerdict r ≡ verdict (rowChecks outOfRange sites 0 (rowsIn (now (words .entry)) (now (coefficients .entry)))) ⌝ }
+pub fn rows_checked(sites: usize, words: &[u8], size: usize, coefficients: &[i64]) -> Verdict
+    requires { ⌜ EitherLength size × (length (now words) ≡ size * length (now coefficients)) ⌝ }
+    ensures { λ r. ⌜ outcomeOfVerdict r ≡ verdict (rowChecks outOfRange sites 0 (rowsIn (inFullBy size (length (now (coefficients .entry))) (now (words .entry))) (now (coefficients .entry)))) ⌝ }
 {
     let mut i = 0;
     while i < coefficients.len() {
-        match row_checked(sites, words, coefficients, i) {
+        match row_checked(sites, words, size, coefficients, i) {
             Verdict::Refused(why) => {
                 return Verdict::Refused(why);
             }
@@ -70,7 +76,7 @@ pub fn rows_checked(sites: usize, words: &[u8], coefficients: &[i64]) -> Verdict
     Verdict::Accepted
 }
 
-// The checks of the lists: 22, 23, and then the rows.
+// The checks of the lists: 22, 23, 36, and then the rows.
 pub fn lists_checked(
     sites: usize,
     words: &[u8],
@@ -79,25 +85,40 @@ pub fn lists_checked(
     first: usize,
     second: usize,
 ) -> Verdict
-    requires { ⌜ sites ≤ maxSites ⌝ }
     ensures { λ r. ⌜ outcomeOfVerdict r ≡ verdict (listChecks outOfRange sites (now (words .entry)) (now (coefficients .entry)) leasts first second) ⌝ }
 {
     let rows = coefficients.len();
-    match row_lists::checks::lengths_checked(words.len(), rows, leasts, first, second) {
+    let size = row_lists::checks::row_size(words.len(), rows);
+    let lengths = row_lists::checks::lengths_checked(
+        sites,
+        words.len(),
+        rows,
+        leasts,
+        first,
+        second,
+    );
+    match lengths {
         Verdict::Refused(why) => Verdict::Refused(why),
-        Verdict::Accepted => rows_checked(sites, words, coefficients),
+        Verdict::Accepted => rows_checked(sites, words, size, coefficients),
     }
 }
 
 // The checks of the modes and the table: 18, 32, 35.
-pub fn sector_checked(table: PhaseTable, group: Group, modes: &[i32]) -> Verdict
-    requires { ⌜ AcceptedGroup group ⌝ }
-    ensures { λ r. ⌜ outcomeOfVerdict r ≡ verdict (modeCount group (now (modes .entry)) ∷ otherModulus group ∷ brokenTable table ∷ []) ⌝ }
+pub fn sector_checked<'a>(
+    table: PhaseTable,
+    targets: &'a [u16; TARGET_PLACES],
+    orders: &'a [u32; MAX_GENERATORS],
+    generators: usize,
+    sites: usize,
+    modes: &[i32],
+) -> Verdict
+    requires { ⌜ verdict (valueChecks (groupIn sites generators (now orders) (now targets))) ≡ answer tt ⌝ }
+    ensures { λ r. ⌜ outcomeOfVerdict r ≡ verdict (modeCount (groupIn sites generators (now (orders .entry)) (now (targets .entry))) (now (modes .entry)) ∷ otherModulus (groupIn sites generators (now (orders .entry)) (now (targets .entry))) ∷ brokenTable table ∷ []) ⌝ }
 {
-    if modes.len() != group.generators {
+    if modes.len() != generators {
         return Verdict::Refused(Refusal::ModeCount);
     }
-    if PHASES % group::inner::modulus_of(group) != 0 {
+    if PHASES % elements::index::phase_modulus(targets, orders, generators, sites) != 0 {
         return Verdict::Refused(Refusal::PhaseModulus);
     }
     if phases::passes(table) {
@@ -108,9 +129,12 @@ pub fn sector_checked(table: PhaseTable, group: Group, modes: &[i32]) -> Verdict
 }
 
 // All checks of a projected sum.
-pub fn projection_checked(
+pub fn projection_checked<'a>(
     table: PhaseTable,
-    group: Group,
+    targets: &'a [u16; TARGET_PLACES],
+    orders: &'a [u32; MAX_GENERATORS],
+    generators: usize,
+    sites: usize,
     modes: &[i32],
     words: &[u8],
     coefficients: &[i64],
@@ -118,15 +142,17 @@ pub fn projection_checked(
     first: usize,
     second: usize,
 ) -> Verdict
-    ensures { λ r. ⌜ outcomeOfVerdict r ≡ verdict (projectChecks table group (now (modes .entry)) (now (words .entry)) (now (coefficients .entry)) leasts first second) ⌝ }
+    ensures { λ r. ⌜ outcomeOfVerdict r ≡ verdict (projectChecks table (groupIn sites generators (now (orders .entry)) (now (targets .entry))) (now (modes .entry)) (now (words .entry)) (now (coefficients .entry)) leasts first second) ⌝ }
 {
-    match group::inner::value_checked(group) {
+    match group::inner::value_checked(targets, orders, generators, sites) {
         Verdict::Refused(why) => Verdict::Refused(why),
-        Verdict::Accepted => match sector_checked(table, group, modes) {
-            Verdict::Refused(why) => Verdict::Refused(why),
-            Verdict::Accepted => {
-                lists_checked(group.sites, words, coefficients, leasts, first, second)
+        Verdict::Accepted => {
+            match sector_checked(table, targets, orders, generators, sites, modes) {
+                Verdict::Refused(why) => Verdict::Refused(why),
+                Verdict::Accepted => {
+                    lists_checked(sites, words, coefficients, leasts, first, second)
+                }
             }
-        },
+        }
     }
 }

@@ -3,6 +3,7 @@
 //
 // The call here asks nothing of its caller: bad input is refused by number, and the lent lists are then as they were.
 mod checks;
+pub mod lent;
 mod parts;
 mod rows;
 
@@ -12,7 +13,6 @@ ghost use Rattle.outcome.specs.Outcome.{onAnswer};
 ghost use Rattle.project.specs.Calls.{projectOutcome, outcomeOfProjection, countsOf, wordsAfter, cosinesAfter, sinesAfter};
 use group::Group;
 use outcome::Refusal;
-use outcome::Verdict;
 use phases::PhaseTable;
 
 // Coefficients lie in -MAX_COEFFICIENT .. MAX_COEFFICIENT.
@@ -25,12 +25,12 @@ pub enum Projection {
     Refused(Refusal),
 }
 
-// Projects a sum onto the sector of a mode list, by a phase table: the constant one (`phases::phase_table`) or any that passes (`phases::passes`). Row i
-// of the sum is the word in bytes WORD_BYTES times i on of `words`, and coefficient i. The output lists have as many rows; each output row is the
-// representative of a kept orbit that some row has, and the sum over its rows of the coefficient times the cosine, and times the sine, of the row's
-// phase, in units of 2^-30. The phase of a row is the character of an index that carries the representative to the row's word; which one does not
-// matter. Rows stand in rising order of their words, zero sums stay, and zeros come after the last row. It answers how many rows are kept and how many
-// dropped. Each word's orbit is walked once, and the table is tested once a call.
+// Projects a sum onto the sector of a mode list, by a phase table: the constant one (`phases::phase_table`) or any that passes (`phases::passes`). Row
+// i of the sum is word i of `words`, which all have one form, and coefficient i. The output lists have as many rows, with words in full; each output
+// row is the representative of a kept orbit that some row has, and the sum over its rows of the coefficient times the cosine, and times the sine, of
+// the row's phase, in units of 2^-30. The phase of a row is the character of an index that carries the representative to the row's word; which one
+// does not matter. Rows stand in rising order of their words, zero sums stay, and zeros come after the last row. It answers how many rows are kept and
+// how many dropped. Each word's orbit is walked once, and the table is tested once a call.
 pub fn project_pauli_sum(
     table: PhaseTable,
     group: Group,
@@ -46,30 +46,17 @@ pub fn project_pauli_sum(
     ensures cosines { λ _. ⌜ now (cosines .exit) ≡ cosinesAfter (now (cosines .entry)) (length (now (coefficients .entry))) (projectOutcome table group (now (modes .entry)) (now (words .entry)) (now (coefficients .entry)) (length (now (representatives .entry))) (length (now (cosines .entry))) (length (now (sines .entry)))) ⌝ }
     ensures sines { λ _. ⌜ now (sines .exit) ≡ sinesAfter (now (sines .entry)) (length (now (coefficients .entry))) (projectOutcome table group (now (modes .entry)) (now (words .entry)) (now (coefficients .entry)) (length (now (representatives .entry))) (length (now (cosines .entry))) (length (now (sines .entry)))) ⌝ }
 {
-    let checked = checks::projection_checked(
+    lent::project_pauli_sum(
         table,
-        group,
+        &group.targets,
+        &group.orders,
+        group.generators,
+        group.sites,
         modes,
         words,
         coefficients,
-        representatives.len(),
-        cosines.len(),
-        sines.len(),
-    );
-    match checked {
-        Verdict::Refused(why) => Projection::Refused(why),
-        Verdict::Accepted => {
-            let kept = rows::project(
-                table,
-                group,
-                modes,
-                words,
-                coefficients,
-                representatives,
-                cosines,
-                sines,
-            );
-            Projection::Rows(kept, coefficients.len() - kept)
-        }
-    }
+        representatives,
+        cosines,
+        sines,
+    )
 }

@@ -6,18 +6,17 @@ ghost use Prim.Native.Nat.{_+_, _*_, _≤_, _<_};
 ghost use lib.IntN.{pos};
 ghost use lib.ListN.{length, set};
 ghost use Rattle.pauli_word.specs.Limits.{wordLength};
-ghost use Rattle.pauli_word.specs.Bytes.{AcceptedWord, lettersIn, bytesOf};
+ghost use Rattle.pauli_word.specs.Bytes.{AcceptedWord, EitherLength, lettersIn, bytesOf};
 ghost use Rattle.action.specs.Sector.{keeps};
-ghost use Rattle.group.specs.Value.{generatorsOf};
+ghost use Rattle.elements.specs.HeldGroup.{generatorsIn};
 ghost use Rattle.keyed.specs.Keyed.{renamed};
-ghost use Rattle.row_lists.specs.Rows.{maxRows, withRow};
+ghost use Rattle.row_lists.specs.Rows.{maxRows, withRow, inFullBy};
 ghost use Rattle.row_words.specs.Words.{wordsFilled, filled};
 ghost use Rattle.phases.specs.Rules.{InRange};
 ghost use Rattle.projection.specs.Projection.{keptRows, projected};
 ghost use Rattle.project.specs.Calls.{maxCoefficient, inputRows};
 ghost use Rattle.project.specs.Rows.{PhaseLists, Sector, WholeRows, turnedAs, turnedRows, TurnedRows};
 use crate::parts;
-use group::Group;
 use momentum::inner::Placement;
 use pauli_word::WORD_BYTES;
 use phases::PHASES;
@@ -34,21 +33,24 @@ pub struct Turned {
 
 // Turns a row of an accepted word.
 pub fn turn_row(
-    group: Group,
+    targets: &[u16],
+    orders: &[u32],
+    generators: usize,
+    sites: usize,
     modes: &[i32],
     word: &[u8],
     coefficient: i64,
     cosines: &[i64],
     sines: &[i64],
 ) -> Turned
-    requires { ⌜ Sector group (now modes) ⌝ }
-    requires { ⌜ AcceptedWord (group .sites) (now word) ⌝ }
+    requires { ⌜ Sector generators sites (now targets) (now orders) (now modes) ⌝ }
+    requires { ⌜ AcceptedWord sites (now word) ⌝ }
     requires { ⌜ InRange maxCoefficient coefficient ⌝ }
     requires { ⌜ PhaseLists (now cosines) (now sines) ⌝ }
-    ensures kept { λ r. ⌜ r .kept ≡ keeps (generatorsOf group) (now (modes .entry)) (lettersIn (group .sites) (now (word .entry))) ⌝ }
-    ensures row { λ r. ⌜ turnedAs r (now (cosines .entry)) (now (sines .entry)) (generatorsOf group) (now (modes .entry)) (lettersIn (group .sites) (now (word .entry)), coefficient) ⌝ }
+    ensures kept { λ r. ⌜ r .kept ≡ keeps (generatorsIn generators sites (now (targets .entry)) (now (orders .entry))) (now (modes .entry)) (lettersIn sites (now (word .entry))) ⌝ }
+    ensures row { λ r. ⌜ turnedAs r (now (cosines .entry)) (now (sines .entry)) (generatorsIn generators sites (now (targets .entry)) (now (orders .entry))) (now (modes .entry)) (lettersIn sites (now (word .entry)), coefficient) ⌝ }
 {
-    let placed = momentum::inner::placement_of(group, word, modes);
+    let placed = momentum::inner::placement_of(targets, orders, generators, sites, word, modes);
     let least = placed.word;
     let answer = placed.answer;
     let Placement::Kept(index, _) = answer else {
@@ -59,8 +61,9 @@ pub fn turn_row(
             sine: 0,
         };
     };
-    let modulus = group::inner::modulus_of(group);
-    let entry = momentum::inner::numerator_at(group, modes, index) * PHASES / modulus;
+    let modulus = elements::index::phase_modulus(targets, orders, generators, sites);
+    let numerator = momentum::inner::numerator_at(targets, orders, generators, sites, modes, index);
+    let entry = numerator * PHASES / modulus;
     Turned {
         kept: true,
         word: least,
@@ -100,9 +103,13 @@ pub fn keep_row(
 // Turns the rows in their order. The representative of the next row of a kept orbit goes into the next row of the list, and what it adds into the
 // next places of the two others. How many rows are kept.
 pub fn turn_rows(
-    group: Group,
+    targets: &[u16],
+    orders: &[u32],
+    generators: usize,
+    sites: usize,
     modes: &[i32],
     words: &[u8],
+    size: usize,
     coefficients: &[i64],
     cosines: &[i64],
     sines: &[i64],
@@ -110,23 +117,26 @@ pub fn turn_rows(
     xs: &mut [i64],
     ys: &mut [i64],
 ) -> usize
-    requires { ⌜ Sector group (now modes) ⌝ }
-    requires { ⌜ WholeRows group (now words) (now coefficients) ⌝ }
+    requires { ⌜ Sector generators sites (now targets) (now orders) (now modes) ⌝ }
+    requires { ⌜ EitherLength size × (length (now words) ≡ size * length (now coefficients)) ⌝ }
+    requires { ⌜ WholeRows sites (inFullBy size (length (now coefficients)) (now words)) (now coefficients) ⌝ }
     requires { ⌜ PhaseLists (now cosines) (now sines) ⌝ }
     requires { ⌜ length (now representatives) ≡ wordLength * length (now coefficients) ⌝ }
     requires { ⌜ (length (now xs) ≡ maxRows) × (length (now ys) ≡ maxRows) ⌝ }
-    ensures kept { λ r. ⌜ r ≡ length (turnedRows (now (cosines .entry)) (now (sines .entry)) (generatorsOf group) (now (modes .entry)) (inputRows group (now (words .entry)) (now (coefficients .entry)))) ⌝ }
-    ensures held { λ _. ⌜ TurnedRows (turnedRows (now (cosines .entry)) (now (sines .entry)) (generatorsOf group) (now (modes .entry)) (inputRows group (now (words .entry)) (now (coefficients .entry)))) (now (representatives .exit)) (now (xs .exit)) (now (ys .exit)) ⌝ }
+    ensures kept { λ r. ⌜ r ≡ length (turnedRows (now (cosines .entry)) (now (sines .entry)) (generatorsIn generators sites (now (targets .entry)) (now (orders .entry))) (now (modes .entry)) (inputRows sites (inFullBy size (length (now (coefficients .entry))) (now (words .entry))) (now (coefficients .entry)))) ⌝ }
+    ensures held { λ _. ⌜ TurnedRows (turnedRows (now (cosines .entry)) (now (sines .entry)) (generatorsIn generators sites (now (targets .entry)) (now (orders .entry))) (now (modes .entry)) (inputRows sites (inFullBy size (length (now (coefficients .entry))) (now (words .entry))) (now (coefficients .entry)))) (now (representatives .exit)) (now (xs .exit)) (now (ys .exit)) ⌝ }
 {
     let mut kept = 0;
     let mut i = 0;
     while i < coefficients.len() {
-        let at = WORD_BYTES * i;
-        let end = at + WORD_BYTES;
+        let full = row_lists::checks::row_in_full(words, size, i);
         let row = turn_row(
-            group,
+            targets,
+            orders,
+            generators,
+            sites,
             modes,
-            &words[at..end],
+            &full,
             coefficients[i],
             cosines,
             sines,
@@ -140,32 +150,41 @@ pub fn turn_rows(
 // Projects the rows by a table, into output lists of as many rows. How many rows are kept.
 pub fn project(
     table: PhaseTable,
-    group: Group,
+    targets: &[u16],
+    orders: &[u32],
+    generators: usize,
+    sites: usize,
     modes: &[i32],
     words: &[u8],
+    size: usize,
     coefficients: &[i64],
     representatives: &mut [u8],
     cosines: &mut [i64],
     sines: &mut [i64],
 ) -> usize
-    requires { ⌜ Sector group (now modes) ⌝ }
-    requires { ⌜ WholeRows group (now words) (now coefficients) ⌝ }
+    requires { ⌜ Sector generators sites (now targets) (now orders) (now modes) ⌝ }
+    requires { ⌜ EitherLength size × (length (now words) ≡ size * length (now coefficients)) ⌝ }
+    requires { ⌜ WholeRows sites (inFullBy size (length (now coefficients)) (now words)) (now coefficients) ⌝ }
     requires { ⌜ PhaseLists (table .cosines) (table .sines) ⌝ }
     requires { ⌜ length (now representatives) ≡ wordLength * length (now coefficients) ⌝ }
     requires { ⌜ (length (now cosines) ≡ length (now coefficients)) × (length (now sines) ≡ length (now coefficients)) ⌝ }
-    ensures kept { λ r. ⌜ r ≡ length (keptRows (generatorsOf group) (now (modes .entry)) (inputRows group (now (words .entry)) (now (coefficients .entry)))) ⌝ }
-    ensures representatives { λ _. ⌜ now (representatives .exit) ≡ wordsFilled (length (now (coefficients .entry))) (map (renamed bytesOf) (projected (table .cosines) (table .sines) (generatorsOf group) (now (modes .entry)) (inputRows group (now (words .entry)) (now (coefficients .entry))))) ⌝ }
-    ensures cosines { λ _. ⌜ now (cosines .exit) ≡ filled (pos 0) (λ row. row .1 .0) (length (now (coefficients .entry))) (projected (table .cosines) (table .sines) (generatorsOf group) (now (modes .entry)) (inputRows group (now (words .entry)) (now (coefficients .entry)))) ⌝ }
-    ensures sines { λ _. ⌜ now (sines .exit) ≡ filled (pos 0) (λ row. row .1 .1) (length (now (coefficients .entry))) (projected (table .cosines) (table .sines) (generatorsOf group) (now (modes .entry)) (inputRows group (now (words .entry)) (now (coefficients .entry)))) ⌝ }
+    ensures kept { λ r. ⌜ r ≡ length (keptRows (generatorsIn generators sites (now (targets .entry)) (now (orders .entry))) (now (modes .entry)) (inputRows sites (inFullBy size (length (now (coefficients .entry))) (now (words .entry))) (now (coefficients .entry)))) ⌝ }
+    ensures representatives { λ _. ⌜ now (representatives .exit) ≡ wordsFilled (length (now (coefficients .entry))) (map (renamed bytesOf) (projected (table .cosines) (table .sines) (generatorsIn generators sites (now (targets .entry)) (now (orders .entry))) (now (modes .entry)) (inputRows sites (inFullBy size (length (now (coefficients .entry))) (now (words .entry))) (now (coefficients .entry))))) ⌝ }
+    ensures cosines { λ _. ⌜ now (cosines .exit) ≡ filled (pos 0) (λ row. row .1 .0) (length (now (coefficients .entry))) (projected (table .cosines) (table .sines) (generatorsIn generators sites (now (targets .entry)) (now (orders .entry))) (now (modes .entry)) (inputRows sites (inFullBy size (length (now (coefficients .entry))) (now (words .entry))) (now (coefficients .entry)))) ⌝ }
+    ensures sines { λ _. ⌜ now (sines .exit) ≡ filled (pos 0) (λ row. row .1 .1) (length (now (coefficients .entry))) (projected (table .cosines) (table .sines) (generatorsIn generators sites (now (targets .entry)) (now (orders .entry))) (now (modes .entry)) (inputRows sites (inFullBy size (length (now (coefficients .entry))) (now (words .entry))) (now (coefficients .entry)))) ⌝ }
 {
     let table_cosines = table.cosines;
     let table_sines = table.sines;
     let mut xs = [0i64; MAX_ROWS];
     let mut ys = [0i64; MAX_ROWS];
     let kept = turn_rows(
-        group,
+        targets,
+        orders,
+        generators,
+        sites,
         modes,
         words,
+        size,
         coefficients,
         &table_cosines,
         &table_sines,

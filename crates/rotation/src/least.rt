@@ -25,7 +25,7 @@ pub struct Least {
 
 // The walk from a word, which stays as it is: u and v hold the planes of the word at hand, xs and zs those of the best so far.
 fn walk_copies(
-    targets: &[u32],
+    targets: &[u16],
     orders: &[u32],
     generators: usize,
     sites: usize,
@@ -74,7 +74,7 @@ fn walk_copies(
 
 // The walk from a word, with places for copies of its planes.
 pub fn walk_from(
-    targets: &[u32],
+    targets: &[u16],
     orders: &[u32],
     generators: usize,
     sites: usize,
@@ -119,7 +119,7 @@ pub fn walk_from(
 
 // The smallest index that reaches the least word of a word's orbit, and how many do: by the X plane alone where only one index reaches its least.
 pub fn lead_of(
-    targets: &[u32],
+    targets: &[u16],
     orders: &[u32],
     generators: usize,
     sites: usize,
@@ -171,7 +171,7 @@ pub fn lead_of(
 
 // The least word of a word's orbit, the smallest index that reaches it, and how many do: in the planes x and z, where the word moves.
 fn least_in(
-    targets: &[u32],
+    targets: &[u16],
     orders: &[u32],
     generators: usize,
     sites: usize,
@@ -225,7 +225,7 @@ fn least_in(
 
 // The least word of a word's orbit, the smallest index that reaches it, and how many do.
 pub fn least_by_masks(
-    targets: &[u32],
+    targets: &[u16],
     orders: &[u32],
     generators: usize,
     sites: usize,

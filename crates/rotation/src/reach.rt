@@ -9,7 +9,7 @@ use crate::planes;
 
 // Moves a word by each generator as often as its digit of the index says: by the stride that often, taken round the block.
 pub fn reach(
-    targets: &[u32],
+    targets: &[u16],
     orders: &[u32],
     generators: usize,
     sites: usize,

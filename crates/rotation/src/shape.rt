@@ -15,7 +15,7 @@ pub struct Shape {
 }
 
 // The site that goes to site 0, or the number of sites.
-pub fn source_of_zero(perm: &[u32]) -> usize
+pub fn source_of_zero(perm: &[u16]) -> usize
     ensures { λ r. ⌜ r ≤ length (now (perm .entry)) ⌝ }
 {
     let mut q = 0;
@@ -37,7 +37,7 @@ pub fn round(place: usize, block: usize) -> usize
 }
 
 // Whether the block from a site on is rotated by a stride.
-pub fn block_rotates(perm: &[u32], base: usize, stride: usize, block: usize) -> bool
+pub fn block_rotates(perm: &[u16], base: usize, stride: usize, block: usize) -> bool
     requires { ⌜ (stride < block) × (base + block ≤ length (now perm)) × (length (now perm) ≤ maxSites) ⌝ }
     ensures { λ r. ⌜ (r ≡ true → (p : ℕ) → p < block → getD (now (perm .entry)) (base + p) 0 ≡ base + (p + stride) % block) ⌝ }
 {
@@ -53,7 +53,7 @@ pub fn block_rotates(perm: &[u32], base: usize, stride: usize, block: usize) -> 
 }
 
 // Whether a permutation rotates by a stride inside blocks, every site of every block looked at.
-pub fn rotates(perm: &[u32], stride: usize, block: usize) -> bool
+pub fn rotates(perm: &[u16], stride: usize, block: usize) -> bool
     requires { ⌜ (stride < block) × (length (now perm) % block ≡ 0) × (length (now perm) ≤ maxSites) ⌝ }
     ensures { λ r. ⌜ (r ≡ true → now (perm .entry) ≡ rotation (length (now (perm .entry))) stride block) ⌝ }
 {
@@ -69,7 +69,7 @@ pub fn rotates(perm: &[u32], stride: usize, block: usize) -> bool
 
 // The shape of a permutation. Where site 0 goes is the stride, and what goes to site 0 stands at the rest; the identity is a shift by 0 in blocks
 // of one site.
-pub fn shape_of(perm: &[u32]) -> Shape
+pub fn shape_of(perm: &[u16]) -> Shape
     requires { ⌜ length (now perm) ≤ maxSites ⌝ }
     ensures { λ r. ⌜ (0 < r .rest → Rotates (length (now (perm .entry))) (r .stride) (r .stride + r .rest) (now (perm .entry))) ⌝ }
 {
@@ -98,7 +98,7 @@ pub fn shape_of(perm: &[u32]) -> Shape
 
 // The shapes of all generators, into strides and rests; whether each has one.
 pub fn find_shapes(
-    targets: &[u32],
+    targets: &[u16],
     generators: usize,
     sites: usize,
     strides: &mut [usize],

@@ -20,7 +20,7 @@ pub struct Lead {
 
 // The walk's step from the entry of an index to the next.
 pub fn advance(
-    targets: &[u32],
+    targets: &[u16],
     orders: &[u32],
     generators: usize,
     sites: usize,
@@ -89,7 +89,7 @@ pub fn take_lead(
 
 // The smallest index that reaches the least word of a word's orbit, and how many do, by walking it whole. The word is at hand and is the best so far.
 pub fn walk_least(
-    targets: &[u32],
+    targets: &[u16],
     orders: &[u32],
     generators: usize,
     sites: usize,

@@ -1,17 +1,18 @@
--- Rows of a list: the part that a row is, and what is at each row once one is written over or two are exchanged.
+-- Rows of a list: the part that a row is, of any number of bytes; and of words in full, what is at each row once one is written over or two are
+-- exchanged.
 use Prim.Native.Nat.{ℕ, suc, _+_, _-_, _*_, _≤_}
 use mathlib.Core.Path.{_≡_, sym, ap, ap₂, _∙_}
 use mathlib.Core.Logic.{_≢_}
 use mathlib.Core.List.{List, _++_, append-assoc}
 use native.Mathlib.Decide.{ℕ-discrete}
-use native.Mathlib.Nat.{add-sub-cancel-left}
+use native.Mathlib.Nat.{add-sub-cancel-left, mul-zero, mul-suc}
 use native.Mathlib.Omega.{arith, ne-cases}
-use lib.ListN.{length, take, drop, length-append, length-take, length-drop, take-append-drop}
+use lib.ListN.{length, take, drop, length-append, length-drop, take-append-drop}
 use lib.Seq.{length-take-le, take-at, drop-at, drop-drop, drop-append-le, take-append-le}
 use Rattle.pauli_word.specs.Limits.{wordLength}
 use Rattle.pauli_word.specs.Bytes.{Bytes}
 use Rattle.pauli_word.proofs.Words.{bytes-take, bytes-drop}
-use Rattle.row_lists.specs.Rows.{rowAt, withRow, rowsSwapped}
+use Rattle.row_lists.specs.Rows.{rowBy, rowAt, withRow, rowsSwapped}
 
 -- ---- m members from place s on, written over
 
@@ -43,12 +44,38 @@ module _ {A : Type 0} (m s : ℕ) (bs xs : List A) where
             let short : length (take s xs) ≡ s = length-take-le s xs (omega arith) in
             rw (drop-append-le t (take s xs) rest (omega arith), take-append-le n (drop t (take s xs)) rest (omega (arith, length-drop t (take s xs))))
 
--- ---- rows of words
+-- ---- rows of `size` bytes
 
--- the part of a list from where row i begins to where it ends is row i
+pub first-by : (size : ℕ) (words : List ℕ) → rowBy size words 0 ≡ take size words
+unfolding rowBy
+first-by size words = ap (λ (k : ℕ). take size (drop k words)) (mul-zero size)
+
+module _ (size : ℕ) (words : List ℕ) (i : ℕ) where
+  -- the part of a list from where row i begins to where it ends is row i
+  pub part-by : take (size * i + size - size * i) (drop (size * i) words) ≡ rowBy size words i
+  unfolding rowBy
+  part-by = ap (λ (k : ℕ). take k (drop (size * i) words)) (add-sub-cancel-left (size * i) size)
+
+  -- the rows behind the first
+  pub behind-by : rowBy size (drop size words) i ≡ rowBy size words (suc i)
+  unfolding rowBy
+  behind-by =
+      let one : size + size * i ≡ size * suc i = omega (arith, mul-suc size i) in
+      ap (take size) (drop-drop (size * i) size words ∙ ap (λ (k : ℕ). drop k words) one)
+
+  pub length-by : size * i + size ≤ length words → length (rowBy size words i) ≡ size
+  unfolding rowBy
+  length-by inside = length-take-le size (drop (size * i) words) (omega (arith, length-drop (size * i) words))
+
+-- ---- rows of words in full
+
+pub row-first : (words : List ℕ) → rowAt words 0 ≡ take wordLength words
+unfolding rowAt rowBy
+row-first words = first-by wordLength words
+
 pub part-row : (words : List ℕ) (i : ℕ) → take (wordLength * i + wordLength - wordLength * i) (drop (wordLength * i) words) ≡ rowAt words i
-unfolding rowAt
-part-row words i = ap (λ (k : ℕ). take k (drop (wordLength * i) words)) (add-sub-cancel-left (wordLength * i) wordLength)
+unfolding rowAt rowBy
+part-row words i = part-by wordLength words i
 
 -- and a row written over that part is written over row i
 pub part-written : (words : List ℕ) (i : ℕ) (bytes : List ℕ)
@@ -58,17 +85,14 @@ part-written words i bytes =
     ap (λ (l : List ℕ). take (wordLength * i) words ++ (bytes ++ l))
     (ap (λ (k : ℕ). drop k (drop (wordLength * i) words)) (add-sub-cancel-left (wordLength * i) wordLength) ∙ drop-drop wordLength (wordLength * i) words)
 
--- the rows behind the first
 pub row-behind : (words : List ℕ) (i : ℕ) → rowAt (drop wordLength words) i ≡ rowAt words (suc i)
-unfolding rowAt
-row-behind words i =
-    let one : wordLength + wordLength * i ≡ wordLength * suc i = omega arith in
-    ap (take wordLength) (drop-drop (wordLength * i) wordLength words ∙ ap (λ (k : ℕ). drop k words) one)
+unfolding rowAt rowBy
+row-behind words i = behind-by wordLength words i
 
 module _ (words : List ℕ) (row : ℕ) (inside : wordLength * row + wordLength ≤ length words) where
   pub row-length : length (rowAt words row) ≡ wordLength
-  unfolding rowAt
-  row-length = simp (length-take, length-drop) (omega arith)
+  unfolding rowAt rowBy
+  row-length = length-by wordLength words row inside
 
   module _ (bytes : List ℕ) (long : length bytes ≡ wordLength) where
     pub withRow-length : length (withRow words row bytes) ≡ length words

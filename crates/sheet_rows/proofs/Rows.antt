@@ -2,6 +2,7 @@
 -- What carries it: two writes, each from where the one before ends, write the two texts as one (`writes-then`), so that a chain of them writes a row.
 use Prim.Native.Nat.{ℕ, zero, suc, _+_, _-_, _*_, _≤_, _<_}
 use mathlib.Core.Path.{_≡_, refl, sym, ap, ap₂, subst, _∙_}
+use mathlib.Core.Logic.{inl}
 use mathlib.Core.Bool.{Bool, true, false, _&&_, not, cond, and-eq-true-iff}
 use mathlib.Core.List.{List, [], _∷_, _++_, map, append-assoc}
 use native.Mathlib.Nat.{div-le-self, sub-zero}
@@ -19,11 +20,12 @@ use Rattle.outcome.proofs.Outcomes.{refused-apart, verdict-fine, call-answers}
 use Rattle.pauli_word.specs.Limits.{maxSites, planeLength}
 use Rattle.outcome.specs.Outcome.{answer, verdict, orElse, outcomeOfNumber}
 use Rattle.pauli_word.specs.Word.{Word, weight}
-use Rattle.pauli_word.specs.Bytes.{AcceptedWord, lettersIn, bytesOf}
+use Rattle.pauli_word.specs.Bytes.{AcceptedWord, lettersIn, bytesOf, wordIn}
 use Rattle.pauli_word.specs.Text.{letter, glyph, lettersAlone, readText, spell, firstOther}
 use Rattle.pauli_word.specs.Calls.{wordChecks, fromTextBytes, toTextOutcome, toTextBytes, weightOutcome}
 use Rattle.pauli_word.proofs.Words.{decode-length, decode-encode, encode-accepted}
 use Rattle.pauli_word.proofs.Sites.{weight-small}
+use Rattle.pauli_word.proofs.Forms.{full-letters}
 use Rattle.pauli_word.proofs.Checks.{accepted-passes}
 use Rattle.pauli_word.proofs.Texts.{spell-readText, no-other}
 use Rattle.action.specs.Lists.{every, sameNumbers}
@@ -140,6 +142,13 @@ module _ (n : ℕ) (bytes : List ℕ) (ok : AcceptedWord n bytes) where
   abbrev text : List ℕ
   text = spell (lettersIn n bytes)
 
+  -- a word in full passes its checks, and its letters are those of its bytes
+  passes : verdict (wordChecks n bytes) ≡ answer tt
+  passes = accepted-passes n bytes (inl ok)
+
+  letters-full : wordIn n bytes ≡ lettersIn n bytes
+  letters-full = full-letters n bytes ok
+
   pub spelled-length : length text ≡ n
   spelled-length = length-map (lettersIn n bytes) glyph ∙ decode-length ok
 
@@ -147,13 +156,16 @@ module _ (n : ℕ) (bytes : List ℕ) (ok : AcceptedWord n bytes) where
   pub spelled-front : {list : List ℕ} → list ≡ toTextBytes n bytes → take (n - 0) list ≡ text
   unfolding toTextBytes toTextOutcome
   spelled-front {list} e =
-      let answers : toTextOutcome n bytes ≡ answer text = call-answers (wordChecks n bytes) (answer text) (accepted-passes n bytes ok) in
+      let answers : toTextOutcome n bytes ≡ answer text =
+      call-answers (wordChecks n bytes) (answer (spell (wordIn n bytes))) passes ∙ ap (λ (w : Word). answer (spell w)) letters-full
+      in
       ap (take (n - 0)) e ∙ rw answers (take-at text _ (n - 0) (omega (arith, spelled-length)))
 
   -- an accepted word has its weight
   pub weighs : weightOutcome n bytes ≡ answer (weight (lettersIn n bytes))
   unfolding weightOutcome
-  weighs = call-answers (wordChecks n bytes) (answer (weight (lettersIn n bytes))) (accepted-passes n bytes ok)
+  weighs =
+      call-answers (wordChecks n bytes) (answer (weight (wordIn n bytes))) passes ∙ ap (λ (w : Word). answer (weight w)) letters-full
 
   pub not-refused : {r : Number} {why : Refusal} → outcomeOfNumber r ≡ weightOutcome n bytes → r ≡ Number.Refused why → ⊥
   not-refused {r} {why} e f = refused-apart _ _ (weight (lettersIn n bytes)) (sym (ap outcomeOfNumber f) ∙ e ∙ weighs)
@@ -340,6 +352,9 @@ module _ (used sites : ℕ) (line : List ℕ) (fine : verdict (valueChecks used 
           ∙ rw (ex, ey, ez) (modes-taken used _ _ _ few (ap (λ (ps : List (List ℕ)). every isMode (take used ps)) (sym e) ∙ passes))
           ∙ ap (λ (ps : List (List ℕ)). map signedOf (take used ps)) (sym e)
 
-      pub line-row : (gs : List Generator) → row gs (readText first) given ≡ lineRow used gs line
+      -- of the generators as many as modes are used
+      pub line-row : (gs : ℕ → List Generator) → row (gs (length given)) (readText first) given ≡ lineRow used (gs used) line
       unfolding lineRow
-      line-row gs = ap₂ (λ (f : List ℕ) (ks : List ℤ). row gs (readText f) ks) (sym first-field) line-modes
+      line-row gs =
+          ap (λ (k : ℕ). row (gs k) (readText first) given) (three-taken used x y z few)
+          ∙ ap₂ (λ (f : List ℕ) (ks : List ℤ). row (gs used) (readText f) ks) (sym first-field) line-modes

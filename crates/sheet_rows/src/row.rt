@@ -7,11 +7,10 @@ ghost use lib.ListN.{length};
 ghost use Rattle.outcome.specs.Outcome.{verdict, answer, ruleNumber};
 ghost use Rattle.pauli_word.specs.Bytes.{lettersIn, AcceptedWord};
 ghost use Rattle.pauli_word.specs.Text.{lettersAlone, readText, spell};
-ghost use Rattle.group.specs.Value.{generatorsOf, AcceptedGroup};
+ghost use Rattle.elements.specs.HeldGroup.{generatorsIn, Tables};
 ghost use Rattle.text.specs.Text.{space, decimal, maxWritten, put};
 ghost use Rattle.sheet_lines.specs.Lines.{zeroText, valueChecks};
 ghost use Rattle.sheet_rows.specs.Rows.{missing, oneText, rest, refusalLine, row as rowOf, lineRow, numberRoom, numbersRoom, spread};
-use group::Group;
 use momentum::inner::Placement;
 use outcome::Number;
 use outcome::Refusal;
@@ -29,14 +28,22 @@ pub fn refusal_line(list: &mut [u8], why: Refusal, line: usize) -> usize
     text::write::append(list, end, b"\n")
 }
 
-// The row of a line with a word and its modes that breaks no rule.
-pub fn write_row(group: Group, used: usize, line: &[u8], list: &mut [u8], at: usize) -> usize
-    requires { ⌜ AcceptedGroup group ⌝ }
-    requires { ⌜ (used ≡ group .generators) × (used ≤ 3) ⌝ }
-    requires { ⌜ verdict (valueChecks used (group .sites) (now line) 0) ≡ answer tt ⌝ }
+// The row of a line with a word and its modes that breaks no rule; the group that the tables hold has as many generators as modes are used.
+pub fn write_row(
+    targets: &[u16],
+    orders: &[u32],
+    sites: usize,
+    used: usize,
+    line: &[u8],
+    list: &mut [u8],
+    at: usize,
+) -> usize
+    requires { ⌜ Tables used sites (now targets) (now orders) ⌝ }
+    requires { ⌜ used ≤ 3 ⌝ }
+    requires { ⌜ verdict (valueChecks used sites (now line) 0) ≡ answer tt ⌝ }
     requires { ⌜ at + spread * (length (now line) + 1) ≤ length (now list) ⌝ }
-    ensures place { λ r. ⌜ r ≡ at + length (lineRow used (generatorsOf group) (now (line .entry))) ⌝ }
-    ensures list { λ _. ⌜ now (list .exit) ≡ put at (lineRow used (generatorsOf group) (now (line .entry))) (now (list .entry)) ⌝ }
+    ensures place { λ r. ⌜ r ≡ at + length (lineRow used (generatorsIn used sites (now (targets .entry)) (now (orders .entry))) (now (line .entry))) ⌝ }
+    ensures list { λ _. ⌜ now (list .exit) ≡ put at (lineRow used (generatorsIn used sites (now (targets .entry)) (now (orders .entry))) (now (line .entry))) (now (list .entry)) ⌝ }
 {
     let Fields::Four(a, b, c) = text::read::four_fields(line) else {
         return at;
@@ -46,30 +53,46 @@ pub fn write_row(group: Group, used: usize, line: &[u8], list: &mut [u8], at: us
         sheet_lines::line::mode_or_zero(&line[b + 1..c]),
         sheet_lines::line::mode_or_zero(&line[c + 1..]),
     ];
-    word_row(group, &modes[0..used], &line[0..a], list, at)
+    word_row(
+        targets,
+        orders,
+        sites,
+        &modes[0..used],
+        &line[0..a],
+        list,
+        at,
+    )
 }
 
-// The row of a word under modes.
-fn word_row(group: Group, modes: &[i32], word: &[u8], list: &mut [u8], at: usize) -> usize
-    requires { ⌜ AcceptedGroup group ⌝ }
-    requires { ⌜ length (now modes) ≡ group .generators ⌝ }
-    requires { ⌜ (lettersAlone (now word) ≡ true) × (length (now word) ≡ group .sites) ⌝ }
+// The row of a word under modes, one for each generator.
+fn word_row(
+    targets: &[u16],
+    orders: &[u32],
+    sites: usize,
+    modes: &[i32],
+    word: &[u8],
+    list: &mut [u8],
+    at: usize,
+) -> usize
+    requires { ⌜ Tables (length (now modes)) sites (now targets) (now orders) ⌝ }
+    requires { ⌜ (lettersAlone (now word) ≡ true) × (length (now word) ≡ sites) ⌝ }
     requires { ⌜ at + (2 * length (now word) + 1 + numbersRoom) ≤ length (now list) ⌝ }
-    ensures place { λ r. ⌜ r ≡ at + length (rowOf (generatorsOf group) (readText (now (word .entry))) (now (modes .entry))) ⌝ }
-    ensures list { λ _. ⌜ now (list .exit) ≡ put at (rowOf (generatorsOf group) (readText (now (word .entry))) (now (modes .entry))) (now (list .entry)) ⌝ }
+    ensures place { λ r. ⌜ r ≡ at + length (rowOf (generatorsIn (length (now (modes .entry))) sites (now (targets .entry)) (now (orders .entry))) (readText (now (word .entry))) (now (modes .entry))) ⌝ }
+    ensures list { λ _. ⌜ now (list .exit) ≡ put at (rowOf (generatorsIn (length (now (modes .entry))) sites (now (targets .entry)) (now (orders .entry))) (readText (now (word .entry))) (now (modes .entry))) (now (list .entry)) ⌝ }
 {
     let read = pauli_word::from_text(word).word;
-    let Number::Value(weight) = pauli_word::weight(group.sites, &read) else {
+    let Number::Value(weight) = pauli_word::weight(sites, &read) else {
         return at;
     };
     let end = text::write::append(list, at, word);
-    let place = momentum::inner::placement_of(group, &read, modes);
+    let generators = modes.len();
+    let place = momentum::inner::placement_of(targets, orders, generators, sites, &read, modes);
     let answer = place.answer;
     let Placement::Kept(index, size) = answer else {
         return dropped_row(list, end, answer.index(), weight);
     };
     let least = place.word;
-    kept_row(list, end, group.sites, least, index, size, weight)
+    kept_row(list, end, sites, least, index, size, weight)
 }
 
 // What follows the word of a dropped row.

@@ -1,7 +1,7 @@
 -- What a sheet prints: the line of its first broken rule, or its table.
 -- What carries it: the checks of a sheet come to those of its first three lines, and then to those of its value lines.
 use Prim.Native.Nat.{ℕ, _-_, _≤_, _<_}
-use mathlib.Core.Path.{_≡_, refl, sym, ap, ap₂, _∙_}
+use mathlib.Core.Path.{_≡_, refl, sym, ap, ap₂, subst, _∙_}
 use mathlib.Core.Bool.{Bool, cond}
 use mathlib.Core.List.{List, [], _∷_, _++_}
 use native.Mathlib.Nat.{sub-zero}
@@ -15,8 +15,11 @@ use Rattle.outcome.specs.declared.Refusal.the-variants as Refusal
 use Rattle.sheet_lines.specs.declared.LineVerdict.{LineVerdict}
 use Rattle.sheet_lines.specs.declared.LineVerdict.the-variants as LineVerdict
 use Rattle.pauli_word.proofs.Words.{rest-part}
+use Rattle.action.specs.Permutation.{Generator}
+use Rattle.elements.specs.HeldGroup.{generatorsIn, Tables}
 use Rattle.group.specs.declared.Group.{Group}
 use Rattle.group.specs.Value.{generatorsOf, AcceptedGroup}
+use Rattle.group.proofs.Accepted.{accepted-tables}
 use Rattle.text.specs.Text.{lineEnd, pieces, put}
 use Rattle.sheet_lines.specs.Lines.{modesOf, lineShape, lineSites, bodyChecks, lineChecks}
 use Rattle.sheet_text.specs.Sheet.{tableNames, sheetSize, maxSheet, rows, lineGenerators, table, sheetOutcome, printed, sheet, writtenOutcome, pageOf, tablePage, refusalPage}
@@ -85,11 +88,19 @@ module _ (input : List ℕ) (short : length input ≤ maxSheet) (h : Head) (read
   pub ready-few : h .used ≤ 3
   ready-few = rw (ready .used) (modes-few (lineShape (ready .line)))
 
-  pub ready-accepted : AcceptedGroup (h .group)
+  ready-accepted : AcceptedGroup (h .group)
   ready-accepted = rw (ready .group) (stands .0)
 
-  pub ready-count : h .used ≡ h .group .generators
+  ready-count : h .used ≡ h .group .generators
   ready-count = ready .used ∙ sym (stands .2) ∙ ap (λ (g : Group). g .generators) (sym (ready .group))
+
+  -- the tables of the group, by as many generators as modes are used
+  pub ready-tables : Tables (h .used) (h .group .sites) (h .group .targets) (h .group .orders)
+  ready-tables =
+      subst (λ (k : ℕ). Tables k (h .group .sites) (h .group .targets) (h .group .orders)) (sym ready-count) (accepted-tables (h .group) ready-accepted)
+
+  abbrev pub ready-generators : List Generator
+  ready-generators = generatorsIn (h .used) (h .group .sites) (h .group .targets) (h .group .orders)
 
   pub ready-short : length body ≤ maxSheet
   ready-short = omega (arith, ap length body-is, length-drop (h .body) input)
@@ -103,14 +114,17 @@ module _ (input : List ℕ) (short : length input ≤ maxSheet) (h : Head) (read
       ∙ ap₂ (λ (n : ℕ) (t : List ℕ). verdict (bodyChecks (h .used) n (pieces lineEnd t) 4)) (sym same-sites) (sym body-is)
 
   pub ready-prints : verdict (bodyChecks (h .used) (h .group .sites) (pieces lineEnd body) 4) ≡ answer tt
-      → Prints input LineVerdict.Accepted ((tableNames ++ (lineEnd ∷ [])) ++ rows (h .used) (generatorsOf (h .group)) (pieces lineEnd body))
+      → Prints input LineVerdict.Accepted ((tableNames ++ (lineEnd ∷ [])) ++ rows (h .used) ready-generators (pieces lineEnd body))
+  unfolding generatorsOf
   ready-prints fine =
-      let gens : generatorsOf (h .group) ≡ lineGenerators (ready .line) = ap generatorsOf (ready .group) ∙ stands .1 in
+      let gens : ready-generators ≡ lineGenerators (ready .line) =
+      ap (λ (k : ℕ). generatorsIn k (h .group .sites) (h .group .targets) (h .group .orders)) ready-count ∙ ap generatorsOf (ready .group) ∙ stands .1
+      in
       let (answers, text) = sheet-fine input short (ready-checks ∙ fine) in (
         answers,
         text
             ∙ table-rows (pieces lineEnd input) (pieces lineEnd body) (ready .line) (ready .second) (ready .lines ∙ ap (pieces lineEnd) (sym body-is))
-            ∙ rw (ready .used, gens),
+            ∙ rw (gens, ready .used),
       )
 
 -- ---- the call

@@ -4,14 +4,13 @@ ghost use Prim.Native.Nat.{ℕ, _+_, _*_, _≤_};
 ghost use lib.ListN.{length};
 ghost use Rattle.outcome.specs.declared.Refusal.{Refusal};
 ghost use Rattle.outcome.specs.Outcome.{verdict, answer};
-ghost use Rattle.group.specs.Value.{generatorsOf, AcceptedGroup};
+ghost use Rattle.elements.specs.HeldGroup.{generatorsIn, Tables};
 ghost use Rattle.text.specs.Text.{lineEnd, pieces, put};
 ghost use Rattle.sheet_lines.specs.declared.LineVerdict.the-variants as LineVerdict;
 ghost use Rattle.sheet_lines.specs.Lines.{bodyChecks};
 ghost use Rattle.sheet_lines.specs.Parts.{outcomeOfLines};
 ghost use Rattle.sheet_rows.specs.Rows.{spread};
 ghost use Rattle.sheet_text.specs.Sheet.{rows, maxSheet};
-use group::Group;
 use outcome::Refusal;
 use outcome::Verdict;
 use sheet_lines::LineVerdict;
@@ -39,20 +38,36 @@ pub fn body_fault(used: usize, sites: usize, text: &[u8]) -> LineVerdict
 }
 
 // The rows of value lines that break no rule, into a list from a place on; the place after them.
-pub fn fill_rows(group: Group, used: usize, text: &[u8], list: &mut [u8], start: usize) -> usize
-    requires { ⌜ AcceptedGroup group ⌝ }
-    requires { ⌜ (used ≡ group .generators) × (used ≤ 3) ⌝ }
-    requires { ⌜ verdict (bodyChecks used (group .sites) (pieces lineEnd (now text)) 4) ≡ answer tt ⌝ }
+pub fn fill_rows<'a>(
+    targets: &'a [u16],
+    orders: &'a [u32],
+    sites: usize,
+    used: usize,
+    text: &[u8],
+    list: &mut [u8],
+    start: usize,
+) -> usize
+    requires { ⌜ Tables used sites (now targets) (now orders) ⌝ }
+    requires { ⌜ used ≤ 3 ⌝ }
+    requires { ⌜ verdict (bodyChecks used sites (pieces lineEnd (now text)) 4) ≡ answer tt ⌝ }
     requires { ⌜ (length (now text) ≤ maxSheet) × (start + spread * length (now text) ≤ length (now list)) ⌝ }
-    ensures place { λ r. ⌜ r ≡ start + length (rows used (generatorsOf group) (pieces lineEnd (now (text .entry)))) ⌝ }
-    ensures list { λ _. ⌜ now (list .exit) ≡ put start (rows used (generatorsOf group) (pieces lineEnd (now (text .entry)))) (now (list .entry)) ⌝ }
+    ensures place { λ r. ⌜ r ≡ start + length (rows used (generatorsIn used sites (now (targets .entry)) (now (orders .entry))) (pieces lineEnd (now (text .entry)))) ⌝ }
+    ensures list { λ _. ⌜ now (list .exit) ≡ put start (rows used (generatorsIn used sites (now (targets .entry)) (now (orders .entry))) (pieces lineEnd (now (text .entry)))) (now (list .entry)) ⌝ }
     ensures room { λ r. ⌜ r ≤ length (now (list .entry)) ⌝ }
 {
     let mut at = 0;
     let mut place = start;
     while at < text.len() {
         let end = at + text::read::find(&text[at..], 10);
-        place = sheet_rows::row::write_row(group, used, &text[at..end], list, place);
+        place = sheet_rows::row::write_row(
+            targets,
+            orders,
+            sites,
+            used,
+            &text[at..end],
+            list,
+            place,
+        );
         at = end + 1;
     }
     place

@@ -81,7 +81,15 @@ fn print_sheet(input: &[u8], list: &mut [u8]) -> Written
     let place = text::write::append(list, 0, b"word rep index orbit weight keep\n");
     Written {
         answer: LineVerdict::Accepted,
-        length: body::fill_rows(group, used, body, list, place),
+        length: body::fill_rows(
+            &group.targets,
+            &group.orders,
+            group.sites,
+            used,
+            body,
+            list,
+            place,
+        ),
     }
 }
 

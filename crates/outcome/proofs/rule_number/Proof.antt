@@ -113,6 +113,9 @@ enum-told-35 c = search needs
 enum-told-36 : tie.Need-enum-told-36
 enum-told-36 c = search needs
 
+enum-told-37 : tie.Need-enum-told-37
+enum-told-37 c = search needs
+
 returns : tie.Need-returns
 returns c = sym (ap ruleNumber (c .enum-told .given .1))
 
@@ -221,6 +224,9 @@ returns-35 c = sym (ap ruleNumber (c .enum-told35 .given .1))
 returns-36 : tie.Need-returns-36
 returns-36 c = sym (ap ruleNumber (c .enum-told36 .given .1))
 
+returns-37 : tie.Need-returns-37
+returns-37 c = sym (ap ruleNumber (c .enum-told37 .given .1))
+
 pub rule-number-spec : {M : Type 1} → statement M
 rule-number-spec =
     tie.close
@@ -261,6 +267,7 @@ rule-number-spec =
     enum-told-34
     enum-told-35
     enum-told-36
+    enum-told-37
     returns
     returns-2
     returns-3
@@ -296,4 +303,5 @@ rule-number-spec =
     returns-33
     returns-34
     returns-35
-    returns-36)
+    returns-36
+    returns-37)

@@ -1,16 +1,25 @@
--- `weight` meets its contract: the checks pass or refuse, and the weight of an accepted word is what it answers.
-use mathlib.Core.Path.{sym, ap, _∙_}
+-- `weight` meets its contract: the checks pass or refuse, and the weight of an accepted word in full is what it answers.
+use mathlib.Core.Path.{_≡_, sym, ap, _∙_}
 use denote.Ref.{now}
-use Rattle.outcome.specs.Outcome.{answer, outcomeOfVerdict, given}
+use Rattle.outcome.specs.Outcome.{answer, verdict}
+use Rattle.outcome.proofs.Outcomes.{told-passes, told-refused, told-answers}
+use Rattle.pauli_word.specs.Word.{weight}
+use Rattle.pauli_word.specs.Bytes.{EitherWord, wordIn, lettersIn}
 use Rattle.pauli_word.specs.Calls.{wordChecks, weightOutcome}
 use Rattle.pauli_word.proofs.Planes.{bytes-of}
-use Rattle.pauli_word.specs.Word.{weight}
-use Rattle.outcome.proofs.Outcomes.{call-refused, call-answers}
+use Rattle.pauli_word.proofs.Forms.{either-length, either-accepted}
 use Rattle.pauli_word.proofs.Checks.{accepted}
 use borrow.Author.Needs.{needs}
 use Rattle.pauli_word.proofs.weight.Statement.{statement}
 use Rattle.pauli_word.proofs.weight.Tie as tie
-use Rattle.pauli_word.specs.Bytes.{lettersIn}
+
+-- the word passes its checks
+either : (c : tie.After-enum-told) → let a = c .before .before .before .before .args in EitherWord (a .n) (now (a .word))
+either c =
+    let t = c .before .before in
+    let a = t .before .before .args in
+    accepted (a .n) (now (a .word)) (told-passes (wordChecks (a .n) (now (a .word))) _ (t .checked .ensures) (c .enum-told .given .1))
+    (bytes-of (now (a .word)) (λ i. t .before .shared-slice-known .given i .fits))
 
 checked-requires : tie.Need-checked-requires
 checked-requires c κs = search needs
@@ -21,29 +30,40 @@ enum-known-why c = search needs
 enum-told : tie.Need-enum-told
 enum-told c = search needs
 
+in-full-requires : tie.Need-in-full-requires
+in-full-requires c κs = either-length _ _ (either c)
+
+slice-aggregate-weighed : tie.Need-slice-aggregate-weighed
+slice-aggregate-weighed c = search needs
+
 weighed-requires : tie.Need-weighed-requires
-weighed-requires c κs =
-    let a = c .before .before .before .before .args in
-    accepted (a .n) (now (a .word)) (sym (c .before .before .checked .ensures) ∙ ap outcomeOfVerdict (c .enum-told .given .1)) (bytes-of (now (a .word)) (λ i. c .before .before .before .shared-slice-known .given i .fits))
+weighed-requires c κs = rw (c .before .in-full .ensures) (either-accepted _ _ (either (c .before .before)))
 
 returns : tie.Need-returns
 unfolding weightOutcome
 returns c =
-    let a = c .before .before .before .before .before .args in
-    sym
-    (call-refused (wordChecks (a .n) (now (a .word))) (answer (weight (lettersIn (a .n) (now (a .word))))) (c .before .why .given .0 .0)
-    (sym (c .before .before .before .checked .ensures) ∙ ap outcomeOfVerdict (c .before .why .given .1)))
+    let t = c .before .before .before in
+    let a = t .before .before .args in
+    sym (told-refused (wordChecks (a .n) (now (a .word))) _ (t .checked .ensures) (answer (weight (wordIn (a .n) (now (a .word))))) (c .before .why .given .1))
 
 returns-2 : tie.Need-returns-2
 unfolding weightOutcome
 returns-2 c =
-    let a = c .before .before .before .before .before .args in
-    ap answer (c .weighed .ensures)
-    ∙ sym
-    (call-answers (wordChecks (a .n) (now (a .word))) (answer (weight (lettersIn (a .n) (now (a .word)))))
-    (sym (c .before .before .before .checked .ensures) ∙ ap outcomeOfVerdict (c .before .enum-told .given .1)))
+    let e = c .before .before .before in
+    let t = e .before .before in
+    let a = t .before .before .args in
+    told-answers (wordChecks (a .n) (now (a .word))) _ (t .checked .ensures) (e .enum-told .given .1)
+    (c .weighed .ensures ∙ ap (λ full. weight (lettersIn (a .n) full)) (c .before .before .in-full .ensures))
 
 pub weight-spec : {M : Type 1} → statement M
 weight-spec =
     tie.close
-    (tie.spec checked-requires enum-known-why enum-told weighed-requires returns returns-2)
+    (tie.spec
+    checked-requires
+    enum-known-why
+    enum-told
+    in-full-requires
+    slice-aggregate-weighed
+    weighed-requires
+    returns
+    returns-2)

@@ -11,7 +11,6 @@ use Rattle.outcome.specs.declared.Refusal.the-variants as Refusal
 use Rattle.outcome.specs.Outcome.{answer, verdict, onAnswer, done, ruleNumber}
 use Rattle.text.specs.Text.{lineEnd, pieces, put}
 use Rattle.text.proofs.Puts.{put-length, put-put}
-use Rattle.group.specs.Value.{generatorsOf}
 use Rattle.sheet_lines.specs.declared.LineVerdict.{LineVerdict}
 use Rattle.sheet_lines.specs.declared.LineVerdict.the-variants as LineVerdict
 use Rattle.sheet_lines.specs.Lines.{bodyChecks, lineChecks}
@@ -19,7 +18,7 @@ use Rattle.sheet_lines.specs.Parts.{refusedAt, outcomeOfLines, Ready}
 use Rattle.sheet_rows.specs.Rows.{refusalLine}
 use Rattle.sheet_text.specs.Sheet.{tableNames, maxSheet, rows as rowsOf, sheet, sheetOutcome}
 use Rattle.sheet_text.specs.declared.Written.{Written}
-use Rattle.sheet_text.proofs.Sheets.{Prints, sheet-long, sheet-broken, body, ready-few, ready-accepted, ready-count, ready-short, ready-checks, ready-prints}
+use Rattle.sheet_text.proofs.Sheets.{Prints, sheet-long, sheet-broken, body, ready-few, ready-tables, ready-generators, ready-short, ready-checks, ready-prints}
 use Rattle.sheet_text.proofs.print_sheet.Statement.{statement}
 use Rattle.sheet_text.proofs.print_sheet.Tie as tie
 
@@ -171,13 +170,13 @@ long c =
 
 fill-rows-requires : tie.Need-fill-rows-requires
 fill-rows-requires c κs =
-    let p = c .before .before .before in
+    let p = c .before .before .before .before .before .before .before .before in
     let e = first p in
     let h = heading e in
     let r = h .read-head .result in (
-      ready-accepted (text h) (short h) r (ready e),
+      ready-tables (text h) (short h) r (ready e),
       (
-        (ready-count (text h) (short h) r (ready e), ready-few (text h) (short h) r (ready e)),
+        ready-few (text h) (short h) r (ready e),
         (
           fine (passed p),
           (
@@ -194,7 +193,7 @@ same-length-4 c = search needs
 returns-4 : tie.Need-returns-4
 returns-4 c =
     let f = c .before .before in
-    let p = f .before .before .before .before in
+    let p = f .before .before .before .before .before .before .before .before .before in
     let e = first p in
     let h = heading e in
     let r = h .read-head .result in
@@ -202,7 +201,7 @@ returns-4 c =
     let list = now (start h .args .list) in
     let names = p .append .ensures in
     let rows = f .fill-rows .ensures in
-    let value : List ℕ = rowsOf (r .used) (generatorsOf (r .group)) (pieces lineEnd (body (text h) (short h) r (ready e))) in
+    let value : List ℕ = rowsOf (r .used) (ready-generators (text h) (short h) r (ready e)) (pieces lineEnd (body (text h) (short h) r (ready e))) in
     let header : List ℕ = tableNames ++ (lineEnd ∷ []) in
     let room : 0 + length header + length value ≤ length list = omega (arith, rows .0, names .0, rows .1 .1, long p) in (
       prints .0,

@@ -1,18 +1,14 @@
--- `gomurin_counter_from_index` meets its contract: it tells what `group::counter_from_index` comes to.
+-- `gomurin_counter_from_index` meets its contract: it tells what `group::lent::counter_from_index` comes to.
 use Rattle.c_api.proofs.Telling.{number-told, values-told}
-use Rattle.c_api.specs.Told.{groupIn}
 use Rattle.group.specs.Calls.{counterOutcome}
-use Rattle.group.specs.declared.Group.{Group}
-use Rattle.outcome.specs.Outcome.{done, itself, onAnswer, orElse}
+use Rattle.outcome.specs.Outcome.{done}
 use denote.Ref.{now}
 use lib.ListN.{length}
-use mathlib.Core.Path.{_∙_, ap}
+use mathlib.Core.Path.{_∙_}
 use borrow.Author.Needs.{needs}
+use Rattle.group.specs.Value.{groupIn}
 use Rattle.c_api.proofs.groups.gomurin_counter_from_index.Statement.{statement}
 use Rattle.c_api.proofs.groups.gomurin_counter_from_index.Tie as tie
-
-group-in-requires : tie.Need-group-in-requires
-group-in-requires c κs = search needs
 
 counter-from-index-requires : tie.Need-counter-from-index-requires
 counter-from-index-requires c κs = search needs
@@ -25,14 +21,13 @@ same-length c = search needs
 
 returns : tie.Need-returns
 returns c =
-    let a = c .before .before .before .before .before .before .before .before .args in
-    let same = c .before .before .before .before .before .before .group-in .ensures in
-    let e = c .before .before .before .before .counter-from-index .ensures .0 ∙ ap (λ (g : Group). onAnswer done (counterOutcome g (a .index) (length (now (a .counter))))) same in
+    let a = c .before .before .before .before .before .before .before .args in
+    let e = c .before .before .before .before .counter-from-index .ensures .0 in
     let held = groupIn (a .sites) (a .generators) (now (a .orders)) (now (a .targets)) in
     let o = counterOutcome held (a .index) (length (now (a .counter))) in (
       c .verdict .ensures .0 ∙ number-told done o e,
       (
-        c .before .before .before .before .counter-from-index .ensures .1 ∙ ap (λ (g : Group). orElse itself (now (a .counter)) (counterOutcome g (a .index) (length (now (a .counter))))) same,
+        c .before .before .before .before .counter-from-index .ensures .1,
         c .verdict .ensures .1 ∙ values-told done o e,
       ),
     )
@@ -40,4 +35,4 @@ returns c =
 pub gomurin-counter-from-index-spec : {M : Type 1} → statement M
 gomurin-counter-from-index-spec =
     tie.close
-    (tie.spec group-in-requires counter-from-index-requires verdict-requires same-length returns)
+    (tie.spec counter-from-index-requires verdict-requires same-length returns)

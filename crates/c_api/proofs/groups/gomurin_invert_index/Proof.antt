@@ -1,15 +1,10 @@
--- `gomurin_invert_index` meets its contract: it tells what `group::invert_index` comes to.
+-- `gomurin_invert_index` meets its contract: it tells what `group::lent::invert_index` comes to.
 use Rattle.c_api.specs.Told.{numberOf, valuesOf}
-use Rattle.group.specs.Calls.{invertOutcome}
-use Rattle.group.specs.declared.Group.{Group}
 use Rattle.outcome.specs.Outcome.{itself, orElse}
 use mathlib.Core.Path.{_∙_, ap}
 use borrow.Author.Needs.{needs}
 use Rattle.c_api.proofs.groups.gomurin_invert_index.Statement.{statement}
 use Rattle.c_api.proofs.groups.gomurin_invert_index.Tie as tie
-
-group-in-requires : tie.Need-group-in-requires
-group-in-requires c κs = search needs
 
 invert-index-requires : tie.Need-invert-index-requires
 invert-index-requires c κs = search needs
@@ -19,10 +14,9 @@ number-requires c κs = search needs
 
 returns : tie.Need-returns
 returns c =
-    let a = c .before .before .before .before .before .args in
-    let e = c .before .before .before .invert-index .ensures ∙ ap (λ (g : Group). invertOutcome g (a .index)) (c .before .before .before .before .group-in .ensures) in
+    let e = c .before .before .before .invert-index .ensures in
     (c .number .ensures .0 ∙ ap numberOf e, (c .number .ensures .1 .0 ∙ ap (orElse itself 0) e, c .number .ensures .1 .1 ∙ ap valuesOf e))
 
 pub gomurin-invert-index-spec : {M : Type 1} → statement M
 gomurin-invert-index-spec =
-    tie.close (tie.spec group-in-requires invert-index-requires number-requires returns)
+    tie.close (tie.spec invert-index-requires number-requires returns)

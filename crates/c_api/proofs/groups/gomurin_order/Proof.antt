@@ -1,14 +1,10 @@
--- `gomurin_order` meets its contract: it tells what `group::order` comes to.
+-- `gomurin_order` meets its contract: it tells what `group::lent::order` comes to.
 use Rattle.c_api.specs.Told.{numberOf, valuesOf}
-use Rattle.group.specs.Calls.{orderOutcome}
 use Rattle.outcome.specs.Outcome.{itself, orElse}
 use mathlib.Core.Path.{_∙_, ap}
 use borrow.Author.Needs.{needs}
 use Rattle.c_api.proofs.groups.gomurin_order.Statement.{statement}
 use Rattle.c_api.proofs.groups.gomurin_order.Tie as tie
-
-group-in-requires : tie.Need-group-in-requires
-group-in-requires c κs = search needs
 
 order-requires : tie.Need-order-requires
 order-requires c κs = search needs
@@ -18,8 +14,8 @@ number-requires c κs = search needs
 
 returns : tie.Need-returns
 returns c =
-    let e = c .before .before .before .order .ensures ∙ ap orderOutcome (c .before .before .before .before .group-in .ensures) in
+    let e = c .before .before .before .order .ensures in
     (c .number .ensures .0 ∙ ap numberOf e, (c .number .ensures .1 .0 ∙ ap (orElse itself 0) e, c .number .ensures .1 .1 ∙ ap valuesOf e))
 
 pub gomurin-order-spec : {M : Type 1} → statement M
-gomurin-order-spec = tie.close (tie.spec group-in-requires order-requires number-requires returns)
+gomurin-order-spec = tie.close (tie.spec order-requires number-requires returns)

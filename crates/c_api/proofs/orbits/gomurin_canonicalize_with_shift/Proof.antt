@@ -1,18 +1,14 @@
--- `gomurin_canonicalize_with_shift` meets its contract: it tells what `orbit::canonicalize_with_shift` comes to.
+-- `gomurin_canonicalize_with_shift` meets its contract: it tells what `orbit::lent::canonicalize_with_shift` comes to.
 use Rattle.c_api.proofs.Telling.{number-told, values-told}
-use Rattle.c_api.specs.Told.{groupIn}
-use Rattle.group.specs.declared.Group.{Group}
-use Rattle.orbit.specs.Calls.{noWord, shiftOf, withShiftOutcome, wordOf}
-use Rattle.outcome.specs.Outcome.{done, onAnswer, orElse}
+use Rattle.orbit.specs.Calls.{withShiftOutcome}
+use Rattle.outcome.specs.Outcome.{done}
 use denote.Ref.{now}
 use lib.ListN.{length}
-use mathlib.Core.Path.{_∙_, ap}
+use mathlib.Core.Path.{_∙_}
 use borrow.Author.Needs.{needs}
+use Rattle.group.specs.Value.{groupIn}
 use Rattle.c_api.proofs.orbits.gomurin_canonicalize_with_shift.Statement.{statement}
 use Rattle.c_api.proofs.orbits.gomurin_canonicalize_with_shift.Tie as tie
-
-group-in-requires : tie.Need-group-in-requires
-group-in-requires c κs = search needs
 
 canonicalize-with-shift-requires : tie.Need-canonicalize-with-shift-requires
 canonicalize-with-shift-requires c κs = search needs
@@ -25,16 +21,15 @@ same-length c = search needs
 
 returns : tie.Need-returns
 returns c =
-    let a = c .before .before .before .before .before .before .before .before .before .before .args in
-    let same = c .before .before .before .before .before .before .before .group-in .ensures in
+    let a = c .before .before .before .before .before .before .before .before .before .args in
     let held = groupIn (a .sites) (a .generators) (now (a .orders)) (now (a .targets)) in
     let o = withShiftOutcome held (a .n) (now (a .word)) (length (now (a .counter))) in
-    let e = c .before .before .before .before .before .canonicalize-with-shift .ensures .0 ∙ ap (λ (g : Group). onAnswer done (withShiftOutcome g (a .n) (now (a .word)) (length (now (a .counter))))) same in (
+    let e = c .before .before .before .before .before .canonicalize-with-shift .ensures .0 in (
       c .verdict .ensures .0 ∙ number-told done o e,
       (
-        c .before .before .before .before .before .canonicalize-with-shift .ensures .1 .0 ∙ ap (λ (g : Group). orElse wordOf noWord (withShiftOutcome g (a .n) (now (a .word)) (length (now (a .counter))))) same,
+        c .before .before .before .before .before .canonicalize-with-shift .ensures .1 .0,
         (
-          c .before .before .before .before .before .canonicalize-with-shift .ensures .1 .1 ∙ ap (λ (g : Group). orElse shiftOf (now (a .counter)) (withShiftOutcome g (a .n) (now (a .word)) (length (now (a .counter))))) same,
+          c .before .before .before .before .before .canonicalize-with-shift .ensures .1 .1,
           c .verdict .ensures .1 ∙ values-told done o e,
         ),
       ),
@@ -44,7 +39,6 @@ pub gomurin-canonicalize-with-shift-spec : {M : Type 1} → statement M
 gomurin-canonicalize-with-shift-spec =
     tie.close
     (tie.spec
-    group-in-requires
     canonicalize-with-shift-requires
     verdict-requires
     same-length

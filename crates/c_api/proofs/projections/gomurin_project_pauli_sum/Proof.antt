@@ -1,6 +1,6 @@
--- `gomurin_project_pauli_sum` meets its contract: it tells what `project::project_pauli_sum` comes to.
+-- `gomurin_project_pauli_sum` meets its contract: it tells what `project::lent::project_pauli_sum` comes to.
 use Rattle.c_api.proofs.Telling.{else-told, number-told, values-told}
-use Rattle.c_api.specs.Told.{droppedIn, groupIn, keptIn}
+use Rattle.c_api.specs.Told.{droppedIn, keptIn}
 use Rattle.outcome.specs.Outcome.{Outcome}
 use Rattle.phases.specs.Rules.{tableOf}
 use Rattle.project.specs.Calls.{ProjectedSum, countsOf, projectOutcome}
@@ -8,14 +8,12 @@ use denote.Ref.{now}
 use lib.ListN.{length}
 use mathlib.Core.Path.{_∙_}
 use borrow.Author.Needs.{needs}
+use Rattle.group.specs.Value.{groupIn}
 use Rattle.c_api.proofs.projections.gomurin_project_pauli_sum.Statement.{statement}
 use Rattle.c_api.proofs.projections.gomurin_project_pauli_sum.Tie as tie
 
 table-in-requires : tie.Need-table-in-requires
 table-in-requires c κs = search needs
-
-group-in-requires : tie.Need-group-in-requires
-group-in-requires c κs = search needs
 
 project-pauli-sum-requires : tie.Need-project-pauli-sum-requires
 project-pauli-sum-requires c κs = search needs
@@ -34,10 +32,9 @@ same-length-3 c = search needs
 
 returns : tie.Need-returns
 returns c =
-    let a = c .before .before .before .before .before .before .before .before .before .before .before .before .before .before .before .before .args in
-    let same-table = c .before .before .before .before .before .before .before .before .before .before .before .before .before .table-in .ensures in
-    let same = c .before .before .before .before .before .before .before .before .before .before .before .before .group-in .ensures in
-    let called = rw (same-table, same) at (c .before .before .before .before .before .before .before .before .project-pauli-sum .ensures) in
+    let a = c .before .before .before .before .before .before .before .before .before .before .before .before .before .before .before .args in
+    let same-table = c .before .before .before .before .before .before .before .before .before .before .before .before .table-in .ensures in
+    let called = rw same-table at (c .before .before .before .before .before .before .before .before .project-pauli-sum .ensures) in
     let t = tableOf (now (a .table-cosines)) (now (a .table-sines)) in
     let g = groupIn (a .sites) (a .generators) (now (a .orders)) (now (a .targets)) in
     let o : Outcome ProjectedSum = projectOutcome t g (now (a .modes)) (now (a .words)) (now (a .coefficients)) (length (now (a .representatives))) (length (now (a .cosines))) (length (now (a .sines))) in (
@@ -65,7 +62,6 @@ gomurin-project-pauli-sum-spec =
     tie.close
     (tie.spec
     table-in-requires
-    group-in-requires
     project-pauli-sum-requires
     projection-requires
     same-length

@@ -1,18 +1,14 @@
--- `gomurin_canonicalize_pauli_sum` meets its contract: it tells what `merge::canonicalize_pauli_sum` comes to.
+-- `gomurin_canonicalize_pauli_sum` meets its contract: it tells what `merge::lent::canonicalize_pauli_sum` comes to.
 use Rattle.c_api.proofs.Telling.{else-told, number-told, values-told}
-use Rattle.c_api.specs.Told.{groupIn}
-use Rattle.group.specs.declared.Group.{Group}
-use Rattle.merge.specs.Calls.{countsAfter, sumOutcome, sumsAfter, wordsAfter}
-use Rattle.outcome.specs.Outcome.{itself, onAnswer}
+use Rattle.merge.specs.Calls.{sumOutcome}
+use Rattle.outcome.specs.Outcome.{itself}
 use denote.Ref.{now}
 use lib.ListN.{length}
-use mathlib.Core.Path.{_∙_, ap}
+use mathlib.Core.Path.{_∙_}
 use borrow.Author.Needs.{needs}
+use Rattle.group.specs.Value.{groupIn}
 use Rattle.c_api.proofs.sums.gomurin_canonicalize_pauli_sum.Statement.{statement}
 use Rattle.c_api.proofs.sums.gomurin_canonicalize_pauli_sum.Tie as tie
-
-group-in-requires : tie.Need-group-in-requires
-group-in-requires c κs = search needs
 
 canonicalize-pauli-sum-requires : tie.Need-canonicalize-pauli-sum-requires
 canonicalize-pauli-sum-requires c κs = search needs
@@ -31,18 +27,17 @@ same-length-3 c = search needs
 
 returns : tie.Need-returns
 returns c =
-    let a = c .before .before .before .before .before .before .before .before .before .before .before .before .before .before .before .before .before .before .before .args in
-    let same = c .before .before .before .before .before .before .before .before .before .before .before .before .before .group-in .ensures in
+    let a = c .before .before .before .before .before .before .before .before .before .before .before .before .before .before .before .before .before .before .args in
     let held = groupIn (a .sites) (a .generators) (now (a .orders)) (now (a .targets)) in
     let o = sumOutcome held (now (a .words)) (now (a .coefficients)) (now (a .representatives)) (now (a .sums)) (now (a .counts)) in
-    let e = c .before .before .before .before .before .before .before .before .before .canonicalize-pauli-sum .ensures .0 ∙ ap (λ (g : Group). onAnswer length (sumOutcome g (now (a .words)) (now (a .coefficients)) (now (a .representatives)) (now (a .sums)) (now (a .counts)))) same in (
+    let e = c .before .before .before .before .before .before .before .before .before .canonicalize-pauli-sum .ensures .0 in (
       c .number .ensures .0 ∙ number-told length o e,
       (
-        c .before .before .before .before .before .before .before .before .before .canonicalize-pauli-sum .ensures .1 .0 ∙ ap (λ (g : Group). wordsAfter g (now (a .words)) (now (a .coefficients)) (now (a .representatives)) (now (a .sums)) (now (a .counts))) same,
+        c .before .before .before .before .before .before .before .before .before .canonicalize-pauli-sum .ensures .1 .0,
         (
-          c .before .before .before .before .before .before .before .before .before .canonicalize-pauli-sum .ensures .1 .1 .0 ∙ ap (λ (g : Group). sumsAfter g (now (a .words)) (now (a .coefficients)) (now (a .representatives)) (now (a .sums)) (now (a .counts))) same,
+          c .before .before .before .before .before .before .before .before .before .canonicalize-pauli-sum .ensures .1 .1 .0,
           (
-            c .before .before .before .before .before .before .before .before .before .canonicalize-pauli-sum .ensures .1 .1 .1 ∙ ap (λ (g : Group). countsAfter g (now (a .words)) (now (a .coefficients)) (now (a .representatives)) (now (a .sums)) (now (a .counts))) same,
+            c .before .before .before .before .before .before .before .before .before .canonicalize-pauli-sum .ensures .1 .1 .1,
             (
               c .number .ensures .1 .0 ∙ else-told length o e itself 0,
               c .number .ensures .1 .1 ∙ values-told length o e,
@@ -56,7 +51,6 @@ pub gomurin-canonicalize-pauli-sum-spec : {M : Type 1} → statement M
 gomurin-canonicalize-pauli-sum-spec =
     tie.close
     (tie.spec
-    group-in-requires
     canonicalize-pauli-sum-requires
     number-requires
     same-length

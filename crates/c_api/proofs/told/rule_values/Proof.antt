@@ -120,6 +120,9 @@ enum-told-22 c = search needs
 enum-told-23 : tie.Need-enum-told-23
 enum-told-23 c = search needs
 
+enum-told-24 : tie.Need-enum-told-24
+enum-told-24 c = search needs
+
 returns : tie.Need-returns
 returns c = sym (ap values (c .enum-told .given .1))
 
@@ -228,6 +231,9 @@ returns-35 c = sym (ap values (c .enum-told22 .given .1))
 returns-36 : tie.Need-returns-36
 returns-36 c = sym (ap values (c .enum-told23 .given .1))
 
+returns-37 : tie.Need-returns-37
+returns-37 c = sym (ap values (c .enum-told24 .given .1))
+
 pub rule-values-spec : {M : Type 1} → statement M
 rule-values-spec =
     tie.close
@@ -268,6 +274,7 @@ rule-values-spec =
     enum-known-why-13
     enum-told-22
     enum-told-23
+    enum-told-24
     returns
     returns-2
     returns-3
@@ -303,4 +310,5 @@ rule-values-spec =
     returns-33
     returns-34
     returns-35
-    returns-36)
+    returns-36
+    returns-37)

@@ -13,7 +13,7 @@ use Rattle.permutation.specs.Limits.{maxGenerators}
 use Rattle.permutation.specs.Generators.{permCheck}
 use Rattle.outcome.specs.Outcome.{outcomeOfVerdict, alone}
 use Rattle.outcome.proofs.Outcomes.{refused-broken, answered-fine}
-use Rattle.generators.proofs.Reading.{Read, permAt, read-none, generator-fits, generator-room, generator-long, read-broken, read-next, read-all, targets-long}
+use Rattle.generators.proofs.Reading.{Read, permAt, read-none, generator-fits, generator-room, generator-long, generator-inside, read-broken, read-next, read-all, targets-long}
 use Rattle.generators.proofs.list.fill_targets.Statement.{statement}
 use Rattle.generators.proofs.list.fill_targets.Tie as tie
 
@@ -110,42 +110,47 @@ mul-place c = omega (arith, room (c .before .before .before .before .before), c 
 add-stop : tie.Need-add-stop Inv-loop μ-loop
 add-stop c = omega (arith, room (c .before .before .before .before .before), c .before .before .before .before .before .before .before .before .before .pre .0)
 
-mul-copy : tie.Need-mul-copy Inv-loop μ-loop
-mul-copy c = omega arith
+mul-store : tie.Need-mul-store Inv-loop μ-loop
+mul-store c = omega arith
 
-sub-copy : tie.Need-sub-copy Inv-loop μ-loop
-sub-copy c = omega arith
+sub-store : tie.Need-sub-store Inv-loop μ-loop
+sub-store c = omega arith
 
-part-copy-start : tie.Need-part-copy-start Inv-loop μ-loop
-part-copy-start c = omega arith
+part-store-start : tie.Need-part-store-start Inv-loop μ-loop
+part-store-start c = omega arith
 
-part-copy-end : tie.Need-part-copy-end Inv-loop μ-loop
-part-copy-end c = whole-generator (c .before .before .before .before .before)
+part-store-end : tie.Need-part-store-end Inv-loop μ-loop
+part-store-end c = whole-generator (c .before .before .before .before .before)
 
-mul-copy-2 : tie.Need-mul-copy-2 Inv-loop μ-loop
-mul-copy-2 c = omega (arith, room (c .before .before .before .before .before .before), c .before .before .before .before .before .before .before .before .before .before .pre .0)
+mul-store-2 : tie.Need-mul-store-2 Inv-loop μ-loop
+mul-store-2 c = omega (arith, room (c .before .before .before .before .before .before), c .before .before .before .before .before .before .before .before .before .before .pre .0)
 
-sub-copy-2 : tie.Need-sub-copy-2 Inv-loop μ-loop
-sub-copy-2 c = omega arith
+sub-store-2 : tie.Need-sub-store-2 Inv-loop μ-loop
+sub-store-2 c = omega arith
 
-part-copy-start-2 : tie.Need-part-copy-start-2 Inv-loop μ-loop
-part-copy-start-2 c = omega arith
+part-store-start-2 : tie.Need-part-store-start-2 Inv-loop μ-loop
+part-store-start-2 c = omega arith
 
-part-copy-end-2 : tie.Need-part-copy-end-2 Inv-loop μ-loop
-part-copy-end-2 c =
+part-store-end-2 : tie.Need-part-store-end-2 Inv-loop μ-loop
+part-store-end-2 c =
     let l = c .before .before .before .before .before .before in
     let s = l .before .before .before .before in
     omega (arith, room l, s .pre .0, targets-long (l .before .loop .inv .1) (s .pre .1 .0 .1))
 
-copy-requires : tie.Need-copy-requires Inv-loop μ-loop
-copy-requires c κs =
+store-requires : tie.Need-store-requires Inv-loop μ-loop
+store-requires c κs =
     let l = c .before .before .before .before .before .before .before in
     let s = l .before .before .before .before in
     let targets = l .before .loop .targets in
     let start = maxSites * l .before .loop .g in
     let long = targets-long (l .before .loop .inv .1) (s .pre .1 .0 .1) in
-    generator-long (l .before .loop .inv .1) (s .pre .1 .0 .1) (l .loop-test .taken) (s .pre .0) (passes (c .before .before))
-    ∙ sym (mid-len start (start + s .args .sites) targets (omega (arith, room l, s .pre .0)) ∙ add-sub-cancel-left start (s .args .sites))
+    let r = l .before .loop .inv .1 in
+    let more = l .loop-test .taken in
+    let ok = passes (c .before .before) in (
+      generator-long r (s .pre .1 .0 .1) more (s .pre .0) ok
+          ∙ sym (mid-len start (start + s .args .sites) targets (omega (arith, room l, s .pre .0)) ∙ add-sub-cancel-left start (s .args .sites)),
+      generator-inside r (s .pre .1 .0 .1) more (s .pre .0) ok,
+    )
 
 add-g : tie.Need-add-g Inv-loop μ-loop
 add-g c = omega (arith, room (c .before .before .before .before .before .before .before .before .before .before))
@@ -158,7 +163,7 @@ loop-again c =
     let l = c .before .before .before .before .before .before .before .before .before .before in
     let s = l .before .before .before .before in (
       whole-generator l,
-      rw (c .before .before .copy .ensures)
+      rw (c .before .before .store .ensures)
           (read-next (l .before .loop .inv .1) (s .pre .1 .0 .1) (l .loop-test .taken) (s .pre .0) (passes (c .before .before .before .before .before))),
     )
 
@@ -196,15 +201,15 @@ fill-targets-spec =
     enum-told
     mul-place
     add-stop
-    mul-copy
-    sub-copy
-    part-copy-start
-    part-copy-end
-    mul-copy-2
-    sub-copy-2
-    part-copy-start-2
-    part-copy-end-2
-    copy-requires
+    mul-store
+    sub-store
+    part-store-start
+    part-store-end
+    mul-store-2
+    sub-store-2
+    part-store-start-2
+    part-store-end-2
+    store-requires
     add-g
     loop-less
     loop-again

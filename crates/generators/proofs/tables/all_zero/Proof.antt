@@ -1,4 +1,4 @@
--- `tables::all_zero` meets its contract. The loop's invariant: all numbers are 0 exactly if those before i, put together, and those from i on are.
+-- `tables::all_zero` meets its contract. The loop's invariant: all targets are 0 exactly if those before i, put together, and those from i on are.
 use Prim.Native.Nat.{_-_, _≤_}
 use mathlib.Core.Path.{_≡_, refl, sym, _∙_}
 use mathlib.Core.Bool.{_&&_}
@@ -12,10 +12,10 @@ use Rattle.generators.proofs.tables.all_zero.Statement.{statement}
 use Rattle.generators.proofs.tables.all_zero.Tie as tie
 
 abbrev Inv-loop : tie.InvT-loop
-Inv-loop numbers any₀ i₀ any i = (i ≤ length numbers) × (zeros numbers ≡ (eqb any 0 && zeros (drop i numbers)))
+Inv-loop targets any₀ i₀ any i = (i ≤ length targets) × (zeros targets ≡ (eqb any 0 && zeros (drop i targets)))
 
 abbrev μ-loop : tie.MeasureT-loop
-μ-loop numbers any₀ i₀ any i = length numbers - i
+μ-loop targets any₀ i₀ any i = length targets - i
 
 loop-holds : tie.Need-loop-holds Inv-loop μ-loop
 loop-holds c = (omega arith, refl)
@@ -36,13 +36,13 @@ loop-again : tie.Need-loop-again Inv-loop μ-loop
 loop-again c =
     let a = c .before .before .before .args in
     let l = c .before .before .loop in
-    (omega arith, l .inv .1 ∙ zeros-more (now (a .numbers)) (l .i) (l .any) (c .before .loop-test .taken))
+    (omega arith, l .inv .1 ∙ zeros-more (now (a .targets)) (l .i) (l .any) (c .before .loop-test .taken))
 
 returns : tie.Need-returns Inv-loop μ-loop
 returns c =
     let a = c .before .before .args in
     let l = c .before .loop in
-    sym (l .inv .1 ∙ zeros-none (now (a .numbers)) (l .i) (l .any) (c .loop-test .left))
+    sym (l .inv .1 ∙ zeros-none (now (a .targets)) (l .i) (l .any) (c .loop-test .left))
 
 pub all-zero-spec : {M : Type 1} → statement M
 all-zero-spec =

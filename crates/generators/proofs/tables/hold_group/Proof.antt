@@ -117,20 +117,20 @@ returns-5 c =
     let rest = rest-part (maxSites * a .generators) (now (a .targets)) in
     sym (unused t ∙ ap₂ (λ (b d : Bool). b && d && zeros (drop (a .generators) (now (a .orders)))) (clear e) (sym (ap zeros rest) ∙ other))
 
-mul-all-zero-2 : tie.Need-mul-all-zero-2
-mul-all-zero-2 c = search needs
+mul-no-orders : tie.Need-mul-no-orders
+mul-no-orders c = search needs
 
-sub-all-zero-2 : tie.Need-sub-all-zero-2
-sub-all-zero-2 c = search needs
+sub-no-orders : tie.Need-sub-no-orders
+sub-no-orders c = search needs
 
-part-all-zero-start-2 : tie.Need-part-all-zero-start-2
-part-all-zero-start-2 c = search needs
+part-no-orders-start : tie.Need-part-no-orders-start
+part-no-orders-start c = search needs
 
-part-all-zero-end-2 : tie.Need-part-all-zero-end-2
-part-all-zero-end-2 c = search needs
+part-no-orders-end : tie.Need-part-no-orders-end
+part-no-orders-end c = search needs
 
-all-zero-requires-2 : tie.Need-all-zero-requires-2
-all-zero-requires-2 c κs = search needs
+no-orders-requires : tie.Need-no-orders-requires
+no-orders-requires c κs = search needs
 
 returns-6 : tie.Need-returns-6
 returns-6 c =
@@ -140,7 +140,7 @@ returns-6 c =
     let a = t .before .before .before .before .before .before .before .before .args in
     let zero = sym (f .before .all-zero .ensures) ∙ not-false (f .before .all-zero .result) (f .if4 .left) in
     let rest = rest-part (maxSites * a .generators) (now (a .targets)) in
-    c .all-zero2 .ensures
+    c .no-orders .ensures
     ∙ ap zeros (rest-part (a .generators) (now (a .orders)))
     ∙ sym (unused t ∙ ap₂ (λ (b d : Bool). b && d && zeros (drop (a .generators) (now (a .orders)))) (clear e) (sym (ap zeros rest) ∙ zero))
 
@@ -164,9 +164,9 @@ hold-group-spec =
     part-all-zero-end
     all-zero-requires
     returns-5
-    mul-all-zero-2
-    sub-all-zero-2
-    part-all-zero-start-2
-    part-all-zero-end-2
-    all-zero-requires-2
+    mul-no-orders
+    sub-no-orders
+    part-no-orders-start
+    part-no-orders-end
+    no-orders-requires
     returns-6)

@@ -1,13 +1,12 @@
 -- `tables::perms_fine` meets its contract. The loop's invariant: the check of all generators is the check of those from g on.
 use Prim.Native.Nat.{_-_, _≤_}
 use mathlib.Core.Path.{_≡_, refl, sym, ap, _∙_}
-use mathlib.Core.Bool.{Bool, not}
+use mathlib.Core.Bool.{not}
 use native.Mathlib.Omega.{arith}
 use denote.Ref.{now}
-use borrow.Author.Needs.{needs}
-use Rattle.outcome.specs.Outcome.{Check, alone, outcomeOfVerdict}
-use Rattle.outcome.proofs.Outcomes.{refused-broken, answered-fine}
+use borrow.Author.Tests.{not-true, not-false}
 use Rattle.permutation.specs.Generators.{permCheck, rowAt}
+use Rattle.permutation.proofs.Faults.{unbroken}
 use Rattle.generators.proofs.Rows.{permsFrom, row-check, perms-none, perms-broken, perms-next}
 use Rattle.generators.proofs.tables.perms_fine.Statement.{statement}
 use Rattle.generators.proofs.tables.perms_fine.Tie as tie
@@ -18,19 +17,16 @@ Inv-loop targets generators sites g₀ g = (g ≤ generators) × (permsFrom gene
 abbrev μ-loop : tie.MeasureT-loop
 μ-loop targets generators sites g₀ g = generators - g
 
-abbrev unbroken : Check → Bool
-unbroken check = not (check .broken)
-
--- the check of generator g alone is what first_fault found
+-- whether generator g alone breaks no rule is what permutes found
 found :
-    (c : tie.After-first-fault Inv-loop μ-loop)
+    (c : tie.After-permutes Inv-loop μ-loop)
     → let l = c .before .before .before in
     let a = l .before .before .args in
-    (outcomeOfVerdict (c .first-fault .result) ≡ alone (permCheck (a .sites) (l .loop .g) (rowAt (a .sites) (now (a .targets)) (l .loop .g))))
+    (c .permutes .result ≡ unbroken (permCheck (a .sites) (l .loop .g) (rowAt (a .sites) (now (a .targets)) (l .loop .g))))
 found c =
     let l = c .before .before .before in
     let a = l .before .before .args in
-    c .first-fault .ensures ∙ sym (ap alone (row-check (a .sites) (now (a .targets)) (l .loop .g) (omega arith)))
+    c .permutes .ensures (l .loop .g) ∙ sym (ap unbroken (row-check (a .sites) (now (a .targets)) (l .loop .g) (omega arith)))
 
 loop-holds : tie.Need-loop-holds Inv-loop μ-loop
 loop-holds c = (omega arith, refl)
@@ -41,37 +37,31 @@ mul-start c = omega arith
 add-end : tie.Need-add-end Inv-loop μ-loop
 add-end c = omega arith
 
-mul-first-fault : tie.Need-mul-first-fault Inv-loop μ-loop
-mul-first-fault c = omega arith
+mul-permutes : tie.Need-mul-permutes Inv-loop μ-loop
+mul-permutes c = omega arith
 
-sub-first-fault : tie.Need-sub-first-fault Inv-loop μ-loop
-sub-first-fault c = omega arith
+sub-permutes : tie.Need-sub-permutes Inv-loop μ-loop
+sub-permutes c = omega arith
 
-part-first-fault-start : tie.Need-part-first-fault-start Inv-loop μ-loop
-part-first-fault-start c = omega arith
+part-permutes-start : tie.Need-part-permutes-start Inv-loop μ-loop
+part-permutes-start c = omega arith
 
-part-first-fault-end : tie.Need-part-first-fault-end Inv-loop μ-loop
-part-first-fault-end c = omega arith
+part-permutes-end : tie.Need-part-permutes-end Inv-loop μ-loop
+part-permutes-end c = omega arith
 
-first-fault-requires : tie.Need-first-fault-requires Inv-loop μ-loop
-first-fault-requires c κs = c .before .before .before .before .pre .2
-
-enum-told : tie.Need-enum-told Inv-loop μ-loop
-enum-told c = search needs
-
-enum-told-2 : tie.Need-enum-told-2 Inv-loop μ-loop
-enum-told-2 c = search needs
+permutes-requires : tie.Need-permutes-requires Inv-loop μ-loop
+permutes-requires c κs = c .before .before .before .before .pre .2
 
 returns : tie.Need-returns Inv-loop μ-loop
 returns c =
-    let l = c .before .before .before .before .before in
+    let l = c .before .before .before .before in
     let s = l .before .before in
     let check = permCheck (s .args .sites) (l .loop .g) (rowAt (s .args .sites) (now (s .args .targets)) (l .loop .g)) in
-    let fault = refused-broken check (c .enum-told2 .given .0 .0) (sym (ap outcomeOfVerdict (c .enum-told2 .given .1)) ∙ found (c .before .before)) in
+    let fault = not-false (check .broken) (sym (found (c .before)) ∙ not-true (c .before .permutes .result) (c .if1 .taken)) in
     sym
     (ap unbroken
     (l .loop .inv .1
-    ∙ perms-broken (s .args .generators) (s .args .sites) (now (s .args .targets)) (l .loop .g) (c .before .before .before .before .loop-test .taken) fault)
+    ∙ perms-broken (s .args .generators) (s .args .sites) (now (s .args .targets)) (l .loop .g) (c .before .before .before .loop-test .taken) fault)
     ∙ ap not fault)
 
 add-g : tie.Need-add-g Inv-loop μ-loop
@@ -82,11 +72,11 @@ loop-less c = omega arith
 
 loop-again : tie.Need-loop-again Inv-loop μ-loop
 loop-again c =
-    let l = c .before .before .before .before .before in
+    let l = c .before .before .before .before in
     let s = l .before .before in
     let check = permCheck (s .args .sites) (l .loop .g) (rowAt (s .args .sites) (now (s .args .targets)) (l .loop .g)) in
-    let fine = answered-fine check (sym (ap outcomeOfVerdict (c .enum-told .given .1)) ∙ found (c .before .before)) in
-    let more = c .before .before .before .before .loop-test .taken in
+    let fine = not-true (check .broken) (sym (found (c .before)) ∙ not-false (c .before .permutes .result) (c .if1 .left)) in
+    let more = c .before .before .before .loop-test .taken in
     (omega arith, l .loop .inv .1 ∙ perms-next (s .args .generators) (s .args .sites) (now (s .args .targets)) (l .loop .g) more fine)
 
 returns-2 : tie.Need-returns-2 Inv-loop μ-loop
@@ -104,13 +94,11 @@ perms-fine-spec =
     loop-holds
     mul-start
     add-end
-    mul-first-fault
-    sub-first-fault
-    part-first-fault-start
-    part-first-fault-end
-    first-fault-requires
-    enum-told
-    enum-told-2
+    mul-permutes
+    sub-permutes
+    part-permutes-start
+    part-permutes-end
+    permutes-requires
     returns
     add-g
     loop-less

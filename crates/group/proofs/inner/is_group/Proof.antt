@@ -4,21 +4,12 @@ use borrow.Author.Needs.{needs}
 use Rattle.group.proofs.inner.is_group.Statement.{statement}
 use Rattle.group.proofs.inner.is_group.Tie as tie
 
-slice-aggregate-hold-group : tie.Need-slice-aggregate-hold-group
-slice-aggregate-hold-group c = search needs
-
-slice-aggregate-hold-group-2 : tie.Need-slice-aggregate-hold-group-2
-slice-aggregate-hold-group-2 c = search needs
-
 hold-group-requires : tie.Need-hold-group-requires
 hold-group-requires c κs = search needs
 
 returns : tie.Need-returns
 unfolding isGroup
-returns c =
-    c .hold-group .ensures
+returns c = c .hold-group .ensures
 
 pub is-group-spec : {M : Type 1} → statement M
-is-group-spec =
-    tie.close
-    (tie.spec slice-aggregate-hold-group slice-aggregate-hold-group-2 hold-group-requires returns)
+is-group-spec = tie.close (tie.spec hold-group-requires returns)

@@ -7,7 +7,7 @@ use lib.ListN.{length, drop}
 use lib.Ieee.{nan}
 use borrow.Author.Needs.{needs}
 use Rattle.outcome.specs.Outcome.{outcomeOfVerdict, verdict}
-use Rattle.row_lists.specs.Rows.{rowsIn}
+use Rattle.row_lists.specs.Rows.{inFullBy, rowsIn}
 use Rattle.row_lists.specs.Checks.{rowChecks}
 use Rattle.row_lists.proofs.ListChecks.{checks-refused, checks-pass, checks-end}
 use Rattle.merge.specs.Calls.{notFinite}
@@ -15,18 +15,18 @@ use Rattle.merge.proofs.checks.rows_checked.Statement.{statement}
 use Rattle.merge.proofs.checks.rows_checked.Tie as tie
 
 abbrev Inv-loop : tie.InvT-loop
-Inv-loop sites words coefficients i₀ i =
-    (i ≤ length coefficients)
-    × (verdict (rowChecks notFinite sites 0 (rowsIn words coefficients)) ≡ verdict (rowChecks notFinite sites i (drop i (rowsIn words coefficients))))
+Inv-loop sites words size coefficients i₀ i =
+    let rows = rowsIn (inFullBy size (length coefficients) words) coefficients in
+    (i ≤ length coefficients) × (verdict (rowChecks notFinite sites 0 rows) ≡ verdict (rowChecks notFinite sites i (drop i rows)))
 
 abbrev μ-loop : tie.MeasureT-loop
-μ-loop sites words coefficients i₀ i = length coefficients - i
+μ-loop sites words size coefficients i₀ i = length coefficients - i
 
 loop-holds : tie.Need-loop-holds Inv-loop μ-loop
 loop-holds c = (omega arith, refl)
 
 row-checked-requires : tie.Need-row-checked-requires Inv-loop μ-loop
-row-checked-requires c κs = (c .before .before .before .before .pre .0, (c .before .before .before .before .pre .1, c .loop-test .taken))
+row-checked-requires c κs = (c .before .before .before .before .pre, c .loop-test .taken)
 
 enum-known-why : tie.Need-enum-known-why Inv-loop μ-loop
 enum-known-why c = search needs
@@ -34,11 +34,13 @@ enum-known-why c = search needs
 returns : tie.Need-returns Inv-loop μ-loop
 returns c =
     let t = c .before .before .before .before in
-    let a = t .before .before .before .before .args in
+    let s = t .before .before .before .before in
+    let a = s .args in
+    let why = c .before .why .given in
     sym
     (t .before .loop .inv .1
-    ∙ checks-refused notFinite nan (a .sites) (now (a .words)) (now (a .coefficients)) (t .before .loop .i) (c .before .why .given .0 .0)
-    (t .loop-test .taken) (sym (c .before .before .before .row-checked .ensures) ∙ ap outcomeOfVerdict (c .before .why .given .1)))
+    ∙ checks-refused notFinite nan (a .sites) (a .size) (now (a .words)) (now (a .coefficients)) (s .pre .0) (s .pre .1) (t .before .loop .i) (why .0 .0)
+    (t .loop-test .taken) (sym (c .before .before .before .row-checked .ensures) ∙ ap outcomeOfVerdict (why .1)))
 
 enum-told : tie.Need-enum-told Inv-loop μ-loop
 enum-told c = search needs
@@ -52,17 +54,21 @@ loop-less c = search needs
 loop-again : tie.Need-loop-again Inv-loop μ-loop
 loop-again c =
     let t = c .before .before .before in
-    let a = t .before .before .before .before .args in (
+    let s = t .before .before .before .before in
+    let a = s .args in (
       omega (arith, t .loop-test .taken),
       t .before .loop .inv .1
-          ∙ checks-pass notFinite nan (a .sites) (now (a .words)) (now (a .coefficients)) (t .before .loop .i) (t .loop-test .taken)
+          ∙ checks-pass notFinite nan (a .sites) (a .size) (now (a .words)) (now (a .coefficients)) (s .pre .0) (s .pre .1) (t .before .loop .i) (t .loop-test .taken)
           (sym (c .before .before .row-checked .ensures) ∙ ap outcomeOfVerdict (c .enum-told .given .1)),
     )
 
 returns-2 : tie.Need-returns-2 Inv-loop μ-loop
 returns-2 c =
-    let a = c .before .before .before .before .args in
-    sym (c .before .loop .inv .1 ∙ checks-end notFinite nan (a .sites) (now (a .words)) (now (a .coefficients)) (c .before .loop .i) (c .loop-test .left))
+    let s = c .before .before .before .before in
+    let a = s .args in
+    sym
+    (c .before .loop .inv .1
+    ∙ checks-end notFinite nan (a .sites) (a .size) (now (a .words)) (now (a .coefficients)) (s .pre .0) (s .pre .1) (c .before .loop .i) (c .loop-test .left))
 
 pub rows-checked-spec : {M : Type 1} → statement M
 rows-checked-spec =

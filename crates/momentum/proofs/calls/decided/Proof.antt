@@ -5,28 +5,52 @@ use mathlib.Core.Path.{_≡_, sym, ap, _∙_}
 use native.Mathlib.Omega.{arith}
 use lib.ListN.{length}
 use denote.Ref.{now}
-use borrow.Author.Needs.{needs}
 use Rattle.outcome.specs.Outcome.{answer, onAnswer, orElse}
+use Rattle.pauli_word.specs.Word.{Word}
+use Rattle.pauli_word.specs.Bytes.{lettersIn}
+use Rattle.pauli_word.proofs.Forms.{full-letters}
 use Rattle.action.specs.Index.{digits}
 use Rattle.elements.specs.HeldGroup.{Tables}
-use Rattle.group.specs.Value.{generatorsOf}
-use Rattle.orbit.specs.Calls.{noWord}
+use Rattle.group.specs.declared.Group.{Group}
+use Rattle.group.specs.Value.{groupIn, generatorsOf}
 use Rattle.group.proofs.Accepted.{accepted-tables}
 use Rattle.group.proofs.Outcomes.{overwritten}
+use Rattle.orbit.specs.Calls.{noWord}
+use Rattle.orbit.proofs.WordCalls.{call-group}
 use Rattle.momentum.specs.Calls.{outcomeOfSector, sizeOf, rowWord, rowCounter, decision, kept, dropped, sectorOutcome}
 use Rattle.momentum.specs.Parts.{indexIn}
 use Rattle.momentum.proofs.Outcomes.{sector-decision}
+use Rattle.momentum.proofs.Traversals.{placed-dropped, placed-row}
+use borrow.Author.Needs.{needs}
 use Rattle.momentum.proofs.calls.decided.Statement.{statement}
 use Rattle.momentum.proofs.calls.decided.Tie as tie
-use Rattle.pauli_word.specs.Bytes.{lettersIn}
-use Rattle.momentum.proofs.Traversals.{placed-dropped, placed-row}
 
--- the tables of an accepted group
-tables : (c : tie.Start) → let g = c .args .group in Tables (g .generators) (g .sites) (g .targets) (g .orders)
-tables c = accepted-tables (c .args .group) (c .pre .0)
+-- the group that the lent parts are
+abbrev group : (c : tie.Start) → Group
+group c = let a = c .args in groupIn (a .sites) (a .generators) (now (a .orders)) (now (a .targets))
+
+-- its tables hold its generators
+tables :
+    (c : tie.After-placement-of-arg2)
+    → let g = group (c .before .before .before .before) in
+    Tables (g .generators) (g .sites) (g .targets) (g .orders)
+tables c =
+    let s = c .before .before .before .before in
+    accepted-tables (group s) (call-group (group s) (s .args .sites) (now (s .args .word)) (s .pre .0) (search needs) (search needs))
+
+-- the outcome is the decision
+decides :
+    (c : tie.Start)
+    → let a = c .args in
+    (sectorOutcome (group c) (a .sites) (now (a .word)) (now (a .modes)) (length (now (a .counter)))
+    ≡ answer (decision (generatorsOf (group c)) (now (a .modes)) (lettersIn (a .sites) (now (a .word)))))
+decides c =
+    let a = c .args in
+    sector-decision (group c) (a .sites) (now (a .word)) (c .pre .0) (now (a .modes)) (length (now (a .counter))) (c .pre .1 .1 .0) (c .pre .1 .1 .1)
+    ∙ ap (λ (w : Word). answer (decision (generatorsOf (group c)) (now (a .modes)) w)) (full-letters (a .sites) (now (a .word)) (c .pre .1 .0))
 
 placement-of-requires : tie.Need-placement-of-requires
-placement-of-requires c κs = search needs
+placement-of-requires c κs = let s = c .before .before .before .before in (tables c, (s .pre .1 .0, s .pre .1 .1 .0))
 
 enum-known-answer : tie.Need-enum-known-answer
 enum-known-answer c = search needs
@@ -40,40 +64,25 @@ index-requires c κs = search needs
 no-row-requires : tie.Need-no-row-requires
 no-row-requires c κs = search needs
 
--- the outcome is the decision
-decides :
-    (c : tie.Start)
-    → let a = c .args in
-    (sectorOutcome (a .group) (a .group .sites) (now (a .word)) (now (a .modes)) (length (now (a .counter)))
-    ≡ answer (decision (generatorsOf (a .group)) (now (a .modes)) (lettersIn (a .group .sites) (now (a .word)))))
-decides c =
-    let a = c .args in
-    sector-decision (a .group) (c .pre .0) (now (a .word)) (c .pre .1 .0) (now (a .modes)) (length (now (a .counter))) (c .pre .1 .1 .0) (c .pre .1 .1 .1)
-
 returns : tie.Need-returns
+unfolding generatorsOf
 returns c =
     let t = c .before .before in
-    let s = t .before .before .before .before .before in
-    let a = s .args in
-    let counter = now (a .counter) in
-    let gs = generatorsOf (a .group) in
+    let p = t .before .before in
+    let s = p .before .before .before .before .before in
+    let gs = generatorsOf (group s) in
+    let counter = now (s .args .counter) in
     let told = t .enum-told .given .1 in
-    let e = decides s ∙ ap answer (placed-dropped _ (sym (t .before .before .placement-of .ensures .0) ∙ told)) in
+    let e = decides s ∙ ap answer (placed-dropped _ (sym (p .placement-of .ensures .0) ∙ told)) in
     let index = c .before .index .ensures ∙ ap indexIn told in (
       ap outcomeOfSector (c .no-row .ensures .0) ∙ ap (λ (i : ℕ). answer (dropped i)) index ∙ sym (ap (onAnswer sizeOf) e),
       (c .no-row .ensures .1 ∙ sym (ap (orElse rowWord noWord) e), sym (ap (orElse (rowCounter gs counter) counter) e)),
     )
 
-slice-aggregate-fill-counter : tie.Need-slice-aggregate-fill-counter
-slice-aggregate-fill-counter c = search needs
-
-slice-aggregate-fill-counter-2 : tie.Need-slice-aggregate-fill-counter-2
-slice-aggregate-fill-counter-2 c = search needs
-
 fill-counter-requires : tie.Need-fill-counter-requires
 fill-counter-requires c κs =
-    let s = c .before .before .before .before .before .before .before .before .before .before .before in
-    (tables s, omega (arith, s .pre .1 .1 .1))
+    let p = c .before .before .before .before .before .before in
+    (tables (p .before), omega (arith, p .before .before .before .before .before .pre .1 .1 .1))
 
 same-length : tie.Need-same-length
 same-length c = search needs
@@ -81,19 +90,18 @@ same-length c = search needs
 returns-2 : tie.Need-returns-2
 unfolding generatorsOf
 returns-2 c =
-    let t = c .before .before .before .before .before .before .before .before .before .before in
-    let s = t .before .before .before .before .before in
-    let a = s .args in
-    let counter = now (a .counter) in
-    let gs = generatorsOf (a .group) in
-    let place = t .before .before .placement-of in
-    let (r, same, index, size) = placed-row _ (sym (place .ensures .0) ∙ t .answer .given .1) in
+    let t = c .before .before .before .before .before .before .before .before in
+    let p = t .before .before in
+    let s = p .before .before .before .before .before in
+    let gs = generatorsOf (group s) in
+    let counter = now (s .args .counter) in
+    let (r, same, index, size) = placed-row _ (sym (p .placement-of .ensures .0) ∙ t .answer .given .1) in
     let e = decides s ∙ ap answer same in (
       ap (λ (k : ℕ). answer (kept k)) (sym size) ∙ sym (ap (onAnswer sizeOf) e),
       (
-        place .ensures .1 ∙ sym (ap (orElse rowWord noWord) (decides s)),
+        p .placement-of .ensures .1 ∙ sym (ap (orElse rowWord noWord) (decides s)),
         c .before .before .before .fill-counter .ensures
-            ∙ overwritten (digits gs (t .answer .given .0 .0)) counter (a .group .generators) (s .pre .1 .1 .1)
+            ∙ overwritten (digits gs (t .answer .given .0 .0)) counter (s .args .generators) (s .pre .1 .1 .1)
             ∙ ap (digits gs) (sym index)
             ∙ sym (ap (orElse (rowCounter gs counter) counter) e),
       ),
@@ -109,8 +117,6 @@ decided-spec =
     index-requires
     no-row-requires
     returns
-    slice-aggregate-fill-counter
-    slice-aggregate-fill-counter-2
     fill-counter-requires
     same-length
     returns-2)

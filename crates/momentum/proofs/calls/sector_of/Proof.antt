@@ -1,16 +1,20 @@
--- `calls::sector_of` meets its contract: of an accepted group and word, the mode count decides, then the counter's length (`sector-modes`,
--- `sector-length`), then `calls::decided`.
-use mathlib.Core.Path.{sym, ap, _∙_}
+-- `calls::sector_of` meets its contract: the lists' lengths decide (`sector-modes`, `sector-length`), and then `decided` answers.
+use mathlib.Core.Path.{_≡_, sym, ap, _∙_}
 use lib.ListN.{length}
 use denote.Ref.{now}
-use borrow.Author.Needs.{needs}
+use Rattle.group.specs.declared.Group.{Group}
+use Rattle.group.specs.Value.{groupIn, generatorsOf}
 use Rattle.outcome.specs.Outcome.{onAnswer, orElse}
 use Rattle.orbit.specs.Calls.{noWord}
 use Rattle.momentum.specs.Calls.{outcomeOfSector, sizeOf, rowWord, rowCounter}
 use Rattle.momentum.proofs.Outcomes.{sector-modes, sector-length}
+use borrow.Author.Needs.{needs}
 use Rattle.momentum.proofs.calls.sector_of.Statement.{statement}
 use Rattle.momentum.proofs.calls.sector_of.Tie as tie
-use Rattle.group.specs.Value.{generatorsOf}
+
+-- the group that the lent parts are
+abbrev group : (c : tie.Start) → Group
+group c = let a = c .args in groupIn (a .sites) (a .generators) (now (a .orders)) (now (a .targets))
 
 no-row-requires : tie.Need-no-row-requires
 no-row-requires c κs = search needs
@@ -18,11 +22,11 @@ no-row-requires c κs = search needs
 returns : tie.Need-returns
 returns c =
     let s = c .before .before .before .before in
-    let a = s .args in
-    let counter = now (a .counter) in
-    let e = sector-modes (a .group) (s .pre .0) (now (a .word)) (s .pre .1) (now (a .modes)) (length counter) (c .before .if1 .taken) in (
+    let counter = now (s .args .counter) in
+    let gs = generatorsOf (group s) in
+    let e = sector-modes (group s) (s .args .sites) (now (s .args .word)) (s .pre .0) (now (s .args .modes)) (length counter) (c .before .if1 .taken) in (
       ap outcomeOfSector (c .no-row .ensures .0) ∙ sym (ap (onAnswer sizeOf) e),
-      (c .no-row .ensures .1 ∙ sym (ap (orElse rowWord noWord) e), sym (ap (orElse (rowCounter (generatorsOf (a .group)) counter) counter) e)),
+      (c .no-row .ensures .1 ∙ sym (ap (orElse rowWord noWord) e), sym (ap (orElse (rowCounter gs counter) counter) e)),
     )
 
 no-row-requires-2 : tie.Need-no-row-requires-2
@@ -31,12 +35,14 @@ no-row-requires-2 c κs = search needs
 returns-2 : tie.Need-returns-2
 returns-2 c =
     let s = c .before .before .before .before .before in
-    let a = s .args in
-    let counter = now (a .counter) in
-    let modes = c .before .before .if1 .left in
-    let e = sector-length (a .group) (s .pre .0) (now (a .word)) (s .pre .1) (now (a .modes)) (length counter) modes (c .before .if2 .taken) in (
+    let counter = now (s .args .counter) in
+    let gs = generatorsOf (group s) in
+    let e =
+    sector-length (group s) (s .args .sites) (now (s .args .word)) (s .pre .0) (now (s .args .modes)) (length counter) (c .before .before .if1 .left)
+    (c .before .if2 .taken)
+    in (
       ap outcomeOfSector (c .no-row2 .ensures .0) ∙ sym (ap (onAnswer sizeOf) e),
-      (c .no-row2 .ensures .1 ∙ sym (ap (orElse rowWord noWord) e), sym (ap (orElse (rowCounter (generatorsOf (a .group)) counter) counter) e)),
+      (c .no-row2 .ensures .1 ∙ sym (ap (orElse rowWord noWord) e), sym (ap (orElse (rowCounter gs counter) counter) e)),
     )
 
 decided-requires : tie.Need-decided-requires

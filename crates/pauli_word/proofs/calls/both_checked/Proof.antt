@@ -1,66 +1,100 @@
 -- `calls::both_checked` meets its contract: each return is reached by the tests that decide it.
-use mathlib.Core.Path.{sym, ap, _∙_}
+use mathlib.Core.Path.{_≡_, sym, _∙_}
+use mathlib.Core.Bool.{true, false}
 use denote.Ref.{now}
-use Rattle.outcome.specs.Outcome.{outcomeOfVerdict}
-use Rattle.pauli_word.proofs.Checks.{compare-many, compare-first, compare-second, compare-above, compare-rest}
+use lib.ListN.{length}
 use borrow.Author.Needs.{needs}
+use borrow.Author.Tests.{not-true, not-false}
+use Rattle.pauli_word.specs.Calls.{eitherLength}
+use Rattle.pauli_word.proofs.Checks.{either-told, compare-many, compare-first, compare-second, compare-old, compare-old-second, compare-left}
 use Rattle.pauli_word.proofs.calls.both_checked.Statement.{statement}
 use Rattle.pauli_word.proofs.calls.both_checked.Tie as tie
 
 returns : tie.Need-returns
 returns c = let a = c .before .before .before .args in sym (compare-many (a .n) (now (a .a)) (now (a .b)) (c .if1 .taken))
 
+either-length-requires : tie.Need-either-length-requires
+either-length-requires c κs = search needs
+
 returns-2 : tie.Need-returns-2
 returns-2 c =
-    let a = c .before .before .before .before .args in
-    sym (compare-first (a .n) (now (a .a)) (now (a .b)) (c .before .if1 .left) (c .if2 .taken))
+    let a = c .before .before .before .before .before .args in
+    sym
+    (compare-first (a .n) (now (a .a)) (now (a .b)) (c .before .before .if1 .left)
+    (sym (c .before .either-length .ensures) ∙ not-true _ (c .if2 .taken)))
+
+-- the length of the first word is one of the two, and then that of the second
+first : (c : tie.Else2) → let a = c .before .before .before .before .before .args in (eitherLength (length (now (a .a))) ≡ true)
+first c = sym (c .before .either-length .ensures) ∙ not-false _ (c .if2 .left)
+
+either-length-requires-2 : tie.Need-either-length-requires-2
+either-length-requires-2 c κs = search needs
 
 returns-3 : tie.Need-returns-3
 returns-3 c =
-    let a = c .before .before .before .before .before .args in
-    sym (compare-second (a .n) (now (a .a)) (now (a .b)) (c .before .before .if1 .left) (c .before .if2 .left) (c .if3 .taken))
+    let t = c .before .before in
+    let a = t .before .before .before .before .before .args in
+    sym
+    (compare-second (a .n) (now (a .a)) (now (a .b)) (t .before .before .if1 .left) (first t)
+    (sym (c .before .either-length2 .ensures) ∙ not-true _ (c .if3 .taken)))
 
-checked-requires : tie.Need-checked-requires
-checked-requires c κs = search needs
+second : (c : tie.Else3) → let a = c .before .before .before .before .before .before .before .args in (eitherLength (length (now (a .b))) ≡ true)
+second c = sym (c .before .either-length2 .ensures) ∙ not-false _ (c .if3 .left)
 
-enum-known-why : tie.Need-enum-known-why
-enum-known-why c = search needs
+past-old-requires : tie.Need-past-old-requires
+past-old-requires c κs = search needs
 
 returns-4 : tie.Need-returns-4
 returns-4 c =
-    let t = c .before in
-    let s = t .before .before .before in
-    let a = s .before .before .before .before .before .args in
+    let u = c .before .before in
+    let t = u .before .before in
+    let a = t .before .before .before .before .before .args in
     sym
-    (compare-above (a .n) (now (a .a)) (now (a .b)) (s .before .before .if1 .left) (s .before .if2 .left) (s .if3 .left) (t .why .given .0 .0)
-    (sym (t .before .before .checked .ensures) ∙ ap outcomeOfVerdict (t .why .given .1)))
+    (compare-old (a .n) (now (a .a)) (now (a .b)) (t .before .before .if1 .left) (first t) (second u)
+    (sym (c .before .past-old .ensures) ∙ c .if4 .taken))
 
-enum-told : tie.Need-enum-told
-enum-told c = search needs
-
-checked-requires-2 : tie.Need-checked-requires-2
-checked-requires-2 c κs = search needs
+past-old-requires-2 : tie.Need-past-old-requires-2
+past-old-requires-2 c κs = search needs
 
 returns-5 : tie.Need-returns-5
 returns-5 c =
-    let t = c .before in
-    let s = t .before .before .before in
-    let a = s .before .before .before .before .before .args in
-    c .checked2 .ensures
+    let v = c .before .before in
+    let u = v .before .before in
+    let t = u .before .before in
+    let a = t .before .before .before .before .before .args in
+    sym
+    (compare-old-second (a .n) (now (a .a)) (now (a .b)) (t .before .before .if1 .left) (first t) (second u)
+    (sym (v .before .past-old .ensures) ∙ v .if4 .left) (sym (c .before .past-old2 .ensures) ∙ c .if5 .taken))
+
+both-clear-requires : tie.Need-both-clear-requires
+both-clear-requires c κs =
+    let u = c .before .before .before .before in
+    (either-told _ (first (u .before .before)), either-told _ (second u))
+
+returns-6 : tie.Need-returns-6
+returns-6 c =
+    let x = c .before in
+    let v = x .before .before in
+    let u = v .before .before in
+    let t = u .before .before in
+    let a = t .before .before .before .before .before .args in
+    c .both-clear .ensures
     ∙ sym
-    (compare-rest (a .n) (now (a .a)) (now (a .b)) (s .before .before .if1 .left) (s .before .if2 .left) (s .if3 .left)
-    (sym (t .before .before .checked .ensures) ∙ ap outcomeOfVerdict (t .enum-told .given .1)))
+    (compare-left (a .n) (now (a .a)) (now (a .b)) (t .before .before .if1 .left) (first t) (second u)
+    (sym (v .before .past-old .ensures) ∙ v .if4 .left) (sym (x .before .past-old2 .ensures) ∙ x .if5 .left))
 
 pub both-checked-spec : {M : Type 1} → statement M
 both-checked-spec =
     tie.close
     (tie.spec
     returns
+    either-length-requires
     returns-2
+    either-length-requires-2
     returns-3
-    checked-requires
-    enum-known-why
+    past-old-requires
     returns-4
-    enum-told
-    checked-requires-2
-    returns-5)
+    past-old-requires-2
+    returns-5
+    both-clear-requires
+    returns-6)

@@ -1,42 +1,50 @@
 -- `checks::row_checked` meets its contract: the word's check decides, and then the range of the coefficient.
+use Prim.Native.Nat.{ℕ}
 use mathlib.Core.Path.{_≡_, sym, ap, _∙_}
-use mathlib.Core.List.{[], _∷_}
+use mathlib.Core.List.{List, [], _∷_}
 use denote.Ref.{now}
-use lib.IntN.{pos}
-use lib.ListN.{getD}
+use lib.IntN.{ℤ, pos}
+use lib.ListN.{length, getD}
 use mir.Syntax.{w64}
 use mir.ValLaws.{toZ-ofZ}
-use borrow.Author.Needs.{needs}
 use Rattle.outcome.specs.Outcome.{answer, verdict, outcomeOfVerdict}
-use Rattle.row_lists.specs.Rows.{rowAt}
+use Rattle.pauli_word.specs.Bytes.{inFull}
+use Rattle.row_lists.specs.Rows.{rowBy}
 use Rattle.row_lists.specs.Checks.{bitAboveSites}
+use Rattle.row_lists.proofs.InFull.{row-inside}
 use Rattle.row_lists.proofs.ListChecks.{own-refused, own-decides}
 use Rattle.phases.specs.Rules.{inRange}
 use Rattle.project.specs.Calls.{maxCoefficient, outOfRange}
 use Rattle.project.proofs.ProjectChecks.{range-kept, range-broken}
+use borrow.Author.Needs.{needs}
 use Rattle.project.proofs.checks.row_checked.Statement.{statement}
 use Rattle.project.proofs.checks.row_checked.Tie as tie
+
+-- the word of the row in full, and its coefficient
+abbrev bytes : tie.Start → List ℕ
+bytes s = inFull (rowBy (s .args .size) (now (s .args .words)) (s .args .i))
+
+abbrev coefficient : tie.Start → ℤ
+coefficient s = getD (now (s .args .coefficients)) (s .args .i) (pos 0)
 
 -- the word's check passes
 word-passes :
     (c : tie.After-enum-told)
-    → let a = c .before .before .before .before .args in
-    verdict (bitAboveSites (a .sites) (a .i) (rowAt (now (a .words)) (a .i)) ∷ []) ≡ answer tt
+    → let s = c .before .before .before .before in
+    verdict (bitAboveSites (s .args .sites) (s .args .i) (bytes s) ∷ []) ≡ answer tt
 word-passes c = sym (c .before .before .word-checked .ensures) ∙ ap outcomeOfVerdict (c .enum-told .given .1)
 
 -- the test of the coefficient
-in-range :
-    (c : tie.After-in-range)
-    → let a = c .before .before .before .before .before .before .args in
-    inRange maxCoefficient (getD (now (a .coefficients)) (a .i) (pos 0)) ≡ c .in-range .result
+in-range : (c : tie.After-in-range) → inRange maxCoefficient (coefficient (c .before .before .before .before .before .before)) ≡ c .in-range .result
 in-range c =
-    let a = c .before .before .before .before .before .before .args in
-    sym
-    (c .in-range .ensures
-    ∙ ap (inRange maxCoefficient) (toZ-ofZ w64 (getD (now (a .coefficients)) (a .i) (pos 0)) record { sfits = c .before .in-range-arg .given }))
+    let s = c .before .before .before .before .before .before in
+    sym (c .in-range .ensures ∙ ap (inRange maxCoefficient) (toZ-ofZ w64 (coefficient s) record { sfits = c .before .in-range-arg .given }))
 
 word-checked-requires : tie.Need-word-checked-requires
-word-checked-requires c κs = search needs
+word-checked-requires c κs =
+    let s = c .before in
+    let a = s .args in
+    (s .pre .0 .0, row-inside (a .size) (length (now (a .coefficients))) (now (a .words)) (s .pre .0 .1) (a .i) (s .pre .1))
 
 enum-known-why : tie.Need-enum-known-why
 enum-known-why c = search needs
@@ -55,25 +63,25 @@ in-range-requires c κs = search needs
 
 returns : tie.Need-returns
 returns c =
-    let a = c .before .before .before .before .before .args in
+    let s = c .before .before .before .before .before in
     let e = sym (c .before .before .before .word-checked .ensures) ∙ ap outcomeOfVerdict (c .before .why .given .1) in
-    sym (own-refused outOfRange (pos 0) (a .sites) (now (a .words)) (now (a .coefficients)) (a .i) (c .before .why .given .0 .0) e)
+    sym (own-refused (s .args .sites) (s .args .i) (bytes s) (outOfRange (s .args .i) (coefficient s)) (c .before .why .given .0 .0) e)
 
 returns-2 : tie.Need-returns-2
 returns-2 c =
     let t = c .before .before .before in
-    let a = t .before .before .before .before .args in
+    let s = t .before .before .before .before in
     sym
-    (own-decides outOfRange (pos 0) (a .sites) (now (a .words)) (now (a .coefficients)) (a .i) (word-passes t)
-    ∙ range-kept (a .i) (getD (now (a .coefficients)) (a .i) (pos 0)) (in-range (c .before) ∙ c .if1 .taken))
+    (own-decides (s .args .sites) (s .args .i) (bytes s) (outOfRange (s .args .i) (coefficient s)) (word-passes t)
+    ∙ range-kept (s .args .i) (coefficient s) (in-range (c .before) ∙ c .if1 .taken))
 
 returns-3 : tie.Need-returns-3
 returns-3 c =
     let t = c .before .before .before in
-    let a = t .before .before .before .before .args in
+    let s = t .before .before .before .before in
     sym
-    (own-decides outOfRange (pos 0) (a .sites) (now (a .words)) (now (a .coefficients)) (a .i) (word-passes t)
-    ∙ range-broken (a .i) (getD (now (a .coefficients)) (a .i) (pos 0)) (in-range (c .before) ∙ c .if1 .left))
+    (own-decides (s .args .sites) (s .args .i) (bytes s) (outOfRange (s .args .i) (coefficient s)) (word-passes t)
+    ∙ range-broken (s .args .i) (coefficient s) (in-range (c .before) ∙ c .if1 .left))
 
 pub row-checked-spec : {M : Type 1} → statement M
 row-checked-spec =

@@ -7,7 +7,7 @@ use lib.IntN.{pos}
 use lib.ListN.{length, drop}
 use borrow.Author.Needs.{needs}
 use Rattle.outcome.specs.Outcome.{outcomeOfVerdict, verdict}
-use Rattle.row_lists.specs.Rows.{rowsIn}
+use Rattle.row_lists.specs.Rows.{rowsIn, inFullBy}
 use Rattle.row_lists.specs.Checks.{rowChecks}
 use Rattle.project.specs.Calls.{outOfRange}
 use Rattle.row_lists.proofs.ListChecks.{checks-refused, checks-pass, checks-end}
@@ -15,18 +15,18 @@ use Rattle.project.proofs.checks.rows_checked.Statement.{statement}
 use Rattle.project.proofs.checks.rows_checked.Tie as tie
 
 abbrev Inv-loop : tie.InvT-loop
-Inv-loop sites words coefficients i₀ i =
-    (i ≤ length coefficients)
-    × (verdict (rowChecks outOfRange sites 0 (rowsIn words coefficients)) ≡ verdict (rowChecks outOfRange sites i (drop i (rowsIn words coefficients))))
+Inv-loop sites words size coefficients i₀ i =
+    let rows = rowsIn (inFullBy size (length coefficients) words) coefficients in
+    (i ≤ length coefficients) × (verdict (rowChecks outOfRange sites 0 rows) ≡ verdict (rowChecks outOfRange sites i (drop i rows)))
 
 abbrev μ-loop : tie.MeasureT-loop
-μ-loop sites words coefficients i₀ i = length coefficients - i
+μ-loop sites words size coefficients i₀ i = length coefficients - i
 
 loop-holds : tie.Need-loop-holds Inv-loop μ-loop
 loop-holds c = (omega arith, refl)
 
 row-checked-requires : tie.Need-row-checked-requires Inv-loop μ-loop
-row-checked-requires c κs = (c .before .before .before .pre .0, (c .before .before .before .pre .1, c .loop-test .taken))
+row-checked-requires c κs = (c .before .before .before .pre, c .loop-test .taken)
 
 enum-known-why : tie.Need-enum-known-why Inv-loop μ-loop
 enum-known-why c = search needs
@@ -37,7 +37,8 @@ returns c =
     let s = t .before .before .before in
     sym
     (t .before .loop .inv .1
-    ∙ checks-refused outOfRange (pos 0) (s .args .sites) (now (s .args .words)) (now (s .args .coefficients)) (t .before .loop .i) (c .before .why .given .0 .0) (t .loop-test .taken)
+    ∙ checks-refused outOfRange (pos 0) (s .args .sites) (s .args .size) (now (s .args .words)) (now (s .args .coefficients)) (s .pre .0) (s .pre .1)
+    (t .before .loop .i) (c .before .why .given .0 .0) (t .loop-test .taken)
     (sym (c .before .before .before .row-checked .ensures) ∙ ap outcomeOfVerdict (c .before .why .given .1)))
 
 enum-told : tie.Need-enum-told Inv-loop μ-loop
@@ -55,14 +56,18 @@ loop-again c =
     let s = t .before .before .before in (
       omega (arith, t .loop-test .taken),
       t .before .loop .inv .1
-          ∙ checks-pass outOfRange (pos 0) (s .args .sites) (now (s .args .words)) (now (s .args .coefficients)) (t .before .loop .i) (t .loop-test .taken)
+          ∙ checks-pass outOfRange (pos 0) (s .args .sites) (s .args .size) (now (s .args .words)) (now (s .args .coefficients)) (s .pre .0) (s .pre .1)
+          (t .before .loop .i) (t .loop-test .taken)
           (sym (c .before .before .row-checked .ensures) ∙ ap outcomeOfVerdict (c .enum-told .given .1)),
     )
 
 returns-2 : tie.Need-returns-2 Inv-loop μ-loop
 returns-2 c =
     let s = c .before .before .before in
-    sym (c .before .loop .inv .1 ∙ checks-end outOfRange (pos 0) (s .args .sites) (now (s .args .words)) (now (s .args .coefficients)) (c .before .loop .i) (c .loop-test .left))
+    sym
+    (c .before .loop .inv .1
+    ∙ checks-end outOfRange (pos 0) (s .args .sites) (s .args .size) (now (s .args .words)) (now (s .args .coefficients)) (s .pre .0) (s .pre .1)
+    (c .before .loop .i) (c .loop-test .left))
 
 pub rows-checked-spec : {M : Type 1} → statement M
 rows-checked-spec =

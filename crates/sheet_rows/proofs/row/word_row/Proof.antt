@@ -1,6 +1,6 @@
 -- `row::word_row` meets its contract: the text, and after it what the placement says (`row-dropped`, `row-kept`), one after the other (`writes-then`).
 use Prim.Native.Nat.{ℕ, _+_, _≤_, _<_}
-use mathlib.Core.Path.{_≡_, sym, ap, ap₂, _∙_}
+use mathlib.Core.Path.{_≡_, refl, sym, ap, ap₂, _∙_}
 use mathlib.Core.List.{List, [], _∷_, _++_}
 use native.Mathlib.Omega.{arith}
 use borrow.Author.Needs.{needs}
@@ -14,8 +14,7 @@ use Rattle.action.specs.Permutation.{Generator, Valid}
 use Rattle.action.specs.Index.{orderOf}
 use Rattle.action.specs.Orbit.{least}
 use Rattle.permutation.specs.Limits.{maxOrder}
-use Rattle.group.specs.Value.{generatorsOf}
-use Rattle.group.proofs.Accepted.{accepted-tables}
+use Rattle.elements.specs.HeldGroup.{generatorsIn}
 use Rattle.momentum.specs.declared.inner.Placement.the-variants as Placement
 use Rattle.momentum.specs.Calls.{decision, rowWord}
 use Rattle.momentum.specs.Parts.{placementOf, indexIn}
@@ -29,7 +28,7 @@ use Rattle.sheet_rows.proofs.row.word_row.Tie as tie
 
 -- what is before the text is read, the weight told, the text appended, the word placed, and the placement told
 abbrev start : tie.After-from-text → tie.Start
-start c = c .before .before .before
+start c = c .before .before .before .before .before
 
 abbrev reading : tie.After-weight2 → tie.After-from-text
 reading c = c .before .before .before .before .before
@@ -48,21 +47,20 @@ begin c = start (reading (weighing (appending c)))
 
 -- the generators, the sites, and the text
 abbrev gs : tie.Start → List Generator
-gs s = generatorsOf (s .args .group)
+gs s = generatorsIn (length (now (s .args .modes))) (s .args .sites) (now (s .args .targets)) (now (s .args .orders))
 
 abbrev sites : tie.Start → ℕ
-sites s = s .args .group .sites
+sites s = s .args .sites
 
 abbrev text : tie.Start → List ℕ
 text s = now (s .args .word)
 
 few : (s : tie.Start) → sites s ≤ maxSites
-few s = s .pre .0 .few
+few s = s .pre .0 .sites
 
 -- the generators are valid and of a small order
 sound : (s : tie.Start) → Valid (sites s) (gs s) × (orderOf (gs s) ≤ maxOrder)
-unfolding generatorsOf
-sound s = let tables = accepted-tables (s .args .group) (s .pre .0) in (tables .valid, tables .small)
+sound s = (s .pre .0 .valid, s .pre .0 .small)
 
 -- the word that the text writes
 module _ (c : tie.After-from-text) where
@@ -70,13 +68,13 @@ module _ (c : tie.After-from-text) where
   s = start c
 
   accepted : AcceptedWord (sites s) (c .from-text .result .word)
-  accepted = read-accepted (sites s) (text s) _ (s .pre .1 .1 .0 .0) (s .pre .1 .1 .0 .1) (few s) (c .from-text .ensures .1)
+  accepted = read-accepted (sites s) (text s) _ (s .pre .1 .0 .0) (s .pre .1 .0 .1) (few s) (c .from-text .ensures .1)
 
   letters : lettersIn (sites s) (c .from-text .result .word) ≡ readText (text s)
-  letters = read-word (sites s) (text s) _ (s .pre .1 .1 .0 .0) (s .pre .1 .1 .0 .1) (few s) (c .from-text .ensures .1)
+  letters = read-word (sites s) (text s) _ (s .pre .1 .0 .0) (s .pre .1 .0 .1) (few s) (c .from-text .ensures .1)
 
   light : weight (readText (text s)) < maxWritten
-  light = weight-few (sites s) (text s) _ (s .pre .1 .1 .0 .0) (s .pre .1 .1 .0 .1) (few s) (c .from-text .ensures .1)
+  light = weight-few (sites s) (text s) _ (s .pre .1 .0 .0) (s .pre .1 .0 .1) (few s) (c .from-text .ensures .1)
 
 -- its weight
 weight-is : (c : tie.After-weight2) → c .weight2 .given .0 .0 ≡ weight (readText (text (start (reading c))))
@@ -94,8 +92,8 @@ written :
     Writes (s .args .at) (text s) (now (s .args .list)) (r .result) (r .last .0) × (r .result + (sites s + 1 + numbersRoom) ≤ length (r .last .0))
 written c =
     let s = start (reading (weighing c)) in
-    let w = text-writes (c .append .ensures) (omega (arith, s .pre .1 .1 .1)) in
-    (w, omega (arith, w .ends, writes-length w, s .pre .1 .1 .0 .1, s .pre .1 .1 .1))
+    let w = text-writes (c .append .ensures) (omega (arith, s .pre .1 .1)) in
+    (w, omega (arith, w .ends, writes-length w, s .pre .1 .0 .1, s .pre .1 .1))
 
 -- where the word stands
 placed : (c : tie.After-placement-of) → let s = begin c in placementOf (decision (gs s) (now (s .args .modes)) (readText (text s))) ≡ c .placement-of .result .answer
@@ -118,7 +116,7 @@ drop-found c =
 drop-small : (c : tie.After-index) → c .index .result < maxWritten
 drop-small c =
     let s = begin (dropping c) in
-    dropped-small (gs s) (now (s .args .modes)) (text s) (s .pre .1 .1 .0 .0) (drop-found c) (sound s .1)
+    dropped-small (gs s) (now (s .args .modes)) (text s) (s .pre .1 .0 .0) (drop-found c) (sound s .1)
 
 -- where a kept word stands: its index and size are small, and its least word is accepted
 module _ (c : tie.After-answer) where
@@ -140,14 +138,14 @@ module _ (c : tie.After-answer) where
   small : (index < maxWritten) × (size < maxWritten)
   small =
       let (valid, below) = sound o in
-      kept-small (gs o) (now (o .args .modes)) (text o) (o .pre .1 .1 .0 .0) found valid (o .pre .1 .1 .0 .1) (few o) below
+      kept-small (gs o) (now (o .args .modes)) (text o) (o .pre .1 .0 .0) found valid (o .pre .1 .0 .1) (few o) below
 
   kept :
       AcceptedWord (sites o) (p .placement-of .result .word)
       × (lettersIn (sites o) (p .placement-of .result .word) ≡ least (gs o) (readText (text o)))
   kept =
       let e = p .placement-of .ensures .1 ∙ ap (λ (w : Word). rowWord (decision (gs o) (now (o .args .modes)) w)) (letters (reading (weighing (appending p)))) in
-      kept-word (gs o) (now (o .args .modes)) (text o) (o .pre .1 .1 .0 .0) found (sound o .0) (o .pre .1 .1 .0 .1) (few o) e
+      kept-word (gs o) (now (o .args .modes)) (text o) (o .pre .1 .0 .0) found (sound o .0) (o .pre .1 .0 .1) (few o) e
 
 from-text-requires : tie.Need-from-text-requires
 from-text-requires c κs = search needs
@@ -178,7 +176,7 @@ slice-aggregate-placement-of c = search needs
 placement-of-requires : tie.Need-placement-of-requires
 placement-of-requires c κs =
     let f = c .before .before .before .before .before .before .before .before .before .before .before in
-    (start f .pre .0, (accepted f, start f .pre .1 .0))
+    (start f .pre .0, (accepted f, refl))
 
 enum-known-answer : tie.Need-enum-known-answer
 enum-known-answer c = search needs
@@ -209,7 +207,7 @@ returns-2 c =
     let second = text-writes (c .before .before .dropped-row .ensures) (omega (arith, first .1, short)) in
     writes-as (writes-then (first .0) second)
     (ap (λ (j : ℕ). text s ++ rest (missing ∷ decimal i ∷ missing ∷ decimal j ∷ zeroText ∷ [])) (weight-is (weighing x))
-    ∙ sym (row-dropped (gs s) (now (s .args .modes)) (text s) (s .pre .1 .1 .0 .0) (drop-found d)))
+    ∙ sym (row-dropped (gs s) (now (s .args .modes)) (text s) (s .pre .1 .0 .0) (drop-found d)))
 
 kept-row-requires : tie.Need-kept-row-requires
 kept-row-requires c κs =
@@ -234,7 +232,7 @@ returns-3 c =
     writes-as (writes-then (first .0) second)
     (ap₂ (λ (v : Word) (j : ℕ). text s ++ rest (spell v ∷ decimal (index z) ∷ decimal (size z) ∷ decimal j ∷ oneText ∷ []))
     (kept z .1) (weight-is (weighing x))
-    ∙ sym (row-kept (gs s) (now (s .args .modes)) (text s) (s .pre .1 .1 .0 .0) (found z)))
+    ∙ sym (row-kept (gs s) (now (s .args .modes)) (text s) (s .pre .1 .0 .0) (found z)))
 
 pub word-row-spec : {M : Type 1} → statement M
 word-row-spec =

@@ -6,9 +6,8 @@ use native.Mathlib.Omega.{arith}
 use denote.Ref.{now}
 use lib.ListN.{length, take, drop}
 use Rattle.pauli_word.proofs.Words.{rest-part}
-use Rattle.elements.specs.HeldGroup.{Tables}
-use Rattle.group.specs.Value.{generatorsOf}
-use Rattle.group.proofs.Accepted.{accepted-tables}
+use Rattle.action.specs.Permutation.{Generator}
+use Rattle.elements.specs.HeldGroup.{generatorsIn}
 use Rattle.text.specs.Text.{lineEnd, before}
 use Rattle.sheet_rows.proofs.Widths.{lineRow-short}
 use Rattle.sheet_text.proofs.Bodies.{line-long, Filling, filling-start, filling-length, filling-ends, filling-fine, filling-next, filling-end}
@@ -16,20 +15,24 @@ use Rattle.sheet_text.proofs.body.fill_rows.Statement.{statement}
 use Rattle.sheet_text.proofs.body.fill_rows.Tie as tie
 
 abbrev Inv-loop : tie.InvT-loop
-Inv-loop group used text list₀ start at₀ place₀ list at place = Filling used (group .sites) (generatorsOf group) text list₀ start list at place
+Inv-loop targets orders sites used text list₀ start at₀ place₀ list at place =
+    Filling used sites (generatorsIn used sites targets orders) text list₀ start list at place
 
 abbrev μ-loop : tie.MeasureT-loop
-μ-loop group used text list₀ start at₀ place₀ list at place = length text - at
+μ-loop targets orders sites used text list₀ start at₀ place₀ list at place = length text - at
 
--- the tables of an accepted group
-tables : (c : tie.Start Inv-loop μ-loop) → let g = c .args .group in Tables (g .generators) (g .sites) (g .targets) (g .orders)
-tables c = accepted-tables (c .args .group) (c .pre .0)
+-- what is before the loop, and the generators that the tables hold
+abbrev begin : tie.After-find Inv-loop μ-loop → tie.Start Inv-loop μ-loop
+begin c = c .before .before .before .before .before .before .before .before
+
+abbrev gs : tie.Start Inv-loop μ-loop → List Generator
+gs s = generatorsIn (s .args .used) (s .args .sites) (now (s .args .targets)) (now (s .args .orders))
 
 loop-holds : tie.Need-loop-holds Inv-loop μ-loop
 loop-holds c =
-    let s = c .before .before in
+    let s = c .before .before .before .before in
     let a = s .args in
-    filling-start (a .used) (a .group .sites) (generatorsOf (a .group)) (now (a .text)) (now (a .list)) (a .start) (s .pre .1 .1 .0) (s .pre .1 .1 .1 .1)
+    filling-start (a .used) (a .sites) (gs s) (now (a .text)) (now (a .list)) (a .start) (s .pre .1 .1 .0) (s .pre .1 .1 .1 .1)
 
 sub-find : tie.Need-sub-find Inv-loop μ-loop
 sub-find c = omega arith
@@ -44,15 +47,15 @@ find-requires : tie.Need-find-requires Inv-loop μ-loop
 find-requires c κs = tt
 
 -- the line at this place ends after as many bytes
-found : (c : tie.After-find Inv-loop μ-loop) → c .find .result ≡ length (before lineEnd (drop (c .before .before .before .loop .at) (now (c .before .before .before .before .before .before .args .text))))
-found c = c .find .ensures ∙ ap (λ (t : List ℕ). length (before lineEnd t)) (rest-part (c .before .before .before .loop .at) (now (c .before .before .before .before .before .before .args .text)))
+found : (c : tie.After-find Inv-loop μ-loop) → c .find .result ≡ length (before lineEnd (drop (c .before .before .before .loop .at) (now (begin c .args .text))))
+found c = c .find .ensures ∙ ap (λ (t : List ℕ). length (before lineEnd t)) (rest-part (c .before .before .before .loop .at) (now (begin c .args .text)))
 
 -- within the text
-ends : (c : tie.After-find Inv-loop μ-loop) → c .before .before .before .loop .at + c .find .result < length (now (c .before .before .before .before .before .before .args .text))
+ends : (c : tie.After-find Inv-loop μ-loop) → c .before .before .before .loop .at + c .find .result < length (now (begin c .args .text))
 ends c = filling-ends (c .before .before .before .loop .inv) (c .find .result) (found c) (c .before .before .loop-test .taken)
 
 add-end : tie.Need-add-end Inv-loop μ-loop
-add-end c = omega (arith, ends c, c .before .before .before .before .before .before .pre .1 .1 .1 .0)
+add-end c = omega (arith, ends c, begin c .pre .1 .1 .1 .0)
 
 sub-write-row : tie.Need-sub-write-row Inv-loop μ-loop
 sub-write-row c = omega arith
@@ -65,7 +68,7 @@ part-write-row-end c = omega (arith, ends c)
 
 write-row-requires : tie.Need-write-row-requires Inv-loop μ-loop
 write-row-requires c κs =
-    let s = c .before .before .before .before .before .before .before .before in
+    let s = begin (c .before .before) in
     let a = s .args in
     let l = c .before .before .before .before .before .loop in
     let r = c .before .before .find .result in (
@@ -80,18 +83,17 @@ write-row-requires c κs =
     )
 
 add-at : tie.Need-add-at Inv-loop μ-loop
-add-at c = omega (arith, ends (c .before .before .before .before .before), c .before .before .before .before .before .before .before .before .before .before .before .pre .1 .1 .1 .0)
+add-at c = omega (arith, ends (c .before .before .before .before .before), begin (c .before .before .before .before .before) .pre .1 .1 .1 .0)
 
 loop-less : tie.Need-loop-less Inv-loop μ-loop
 loop-less c = omega (arith, ends (c .before .before .before .before .before))
 
 loop-again : tie.Need-loop-again Inv-loop μ-loop
-unfolding generatorsOf
 loop-again c =
-    let s = c .before .before .before .before .before .before .before .before .before .before .before in
+    let s = begin (c .before .before .before .before .before) in
     let a = s .args in
     let l = c .before .before .before .before .before .before .before .before .loop in
-    let t = tables s in
+    let t = s .pre .0 in
     let r = c .before .before .before .before .before .find .result in
     let taken = c .before .before .before .before .before .before .before .loop-test .taken in
     let fine = filling-fine (l .inv) r (found (c .before .before .before .before .before)) taken in
