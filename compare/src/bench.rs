@@ -1,11 +1,12 @@
 //! The bench: ours through the C interface and the listed Rust, in turn in one process, on the same random words. Times are of one call, or of one row
-//! of a sum; the ratio is the Rust's least time over ours.
+//! of a sum; the ratio is the Rust's least time over ours. Ours is handed words in full; the Rust's have the bytes of the old form, since above 128 bytes
+//! a plane it rotates no longer by masks but moves letters site by site.
 
 use crate::cases::{Group, Lattice};
 use crate::groups;
 use crate::interface::*;
 use crate::random::Random;
-use crate::rust::{Word, bytes, value_of};
+use crate::rust::{OldWord, old_bytes, value_of};
 use crate::sizes::*;
 use ppvm_pauli_sum::symmetry::group::TranslationGroup;
 use ppvm_pauli_sum::symmetry::merge;
@@ -74,7 +75,7 @@ fn time(nanoseconds: f64) -> String {
 fn measure_all(report: impl Fn(&Measured)) {
     let mut random = Random::of(0, "bench", 0);
     for (name, group) in benched_groups(&mut random) {
-        let words: Vec<Word> = (0..WORDS).map(|_| random_word(&mut random, group.n_qubits())).collect();
+        let words: Vec<OldWord> = (0..WORDS).map(|_| random_word(&mut random, group.n_qubits())).collect();
         report(&measured(&name, &group, "canonicalize_with_index", with_index(&group, &words)));
         report(&measured(&name, &group, "canonicalize_in_sector", in_sector(&group, &words)));
     }
@@ -105,19 +106,19 @@ fn benched_groups(random: &mut Random) -> Vec<(String, TranslationGroup)> {
     all
 }
 
-fn random_word(random: &mut Random, sites: usize) -> Word {
+fn random_word(random: &mut Random, sites: usize) -> OldWord {
     let text: String = (0..sites).map(|_| random.pick(&['I', 'X', 'Y', 'Z'])).collect();
-    Word::from(text)
+    OldWord::from(text)
 }
 
 /// Rows of a sum by how their representatives follow one another.
-fn benched_rows(random: &mut Random, group: &TranslationGroup) -> Vec<(&'static str, Vec<Word>)> {
-    let mut rising: Vec<Word> = (0..MAX_ROWS).map(|_| random_word(random, group.n_qubits())).collect();
+fn benched_rows(random: &mut Random, group: &TranslationGroup) -> Vec<(&'static str, Vec<OldWord>)> {
+    let mut rising: Vec<OldWord> = (0..MAX_ROWS).map(|_| random_word(random, group.n_qubits())).collect();
     rising.sort_by_cached_key(|word| group.canonicalize(word));
     let falling = rising.iter().rev().copied().collect();
     let mut shuffled = rising.clone();
     random.shuffle(&mut shuffled);
-    let orbit: Vec<Word> = group.orbit(&rising[0]).collect();
+    let orbit: Vec<OldWord> = group.orbit(&rising[0]).collect();
     let equal = (0..MAX_ROWS).map(|_| random.pick(&orbit)).collect();
     vec![("rising", rising), ("falling", falling), ("random", shuffled), ("all equal", equal)]
 }
@@ -160,9 +161,9 @@ fn round<'a, W>(words: &'a [W], call: impl Fn(&W) + 'a) -> impl Fn(usize, usize)
     move |calls, before| timed(|| (before..before + calls).for_each(|i| call(&words[i % words.len()])))
 }
 
-fn with_index(group: &TranslationGroup, words: &[Word]) -> (Times, Times) {
+fn with_index(group: &TranslationGroup, words: &[OldWord]) -> (Times, Times) {
     let value = value_of(group);
-    let ours: Vec<Vec<u8>> = words.iter().map(bytes).collect();
+    let ours: Vec<Vec<u8>> = words.iter().map(old_bytes).collect();
     in_turn(
         1,
         round(&ours, |word| {
@@ -174,10 +175,10 @@ fn with_index(group: &TranslationGroup, words: &[Word]) -> (Times, Times) {
     )
 }
 
-fn in_sector(group: &TranslationGroup, words: &[Word]) -> (Times, Times) {
+fn in_sector(group: &TranslationGroup, words: &[OldWord]) -> (Times, Times) {
     let value = value_of(group);
     let modes = vec![0; group.n_generators()];
-    let ours: Vec<Vec<u8>> = words.iter().map(bytes).collect();
+    let ours: Vec<Vec<u8>> = words.iter().map(old_bytes).collect();
     in_turn(
         1,
         round(&ours, |word| {
@@ -190,9 +191,9 @@ fn in_sector(group: &TranslationGroup, words: &[Word]) -> (Times, Times) {
 }
 
 /// Both sides fold all rows at each call; what is timed is the call alone, by the row.
-fn sum(group: &TranslationGroup, rows: &[Word]) -> (Times, Times) {
+fn sum(group: &TranslationGroup, rows: &[OldWord]) -> (Times, Times) {
     let value = value_of(group);
-    let words: Vec<u8> = rows.iter().flat_map(bytes).collect();
+    let words: Vec<u8> = rows.iter().flat_map(old_bytes).collect();
     let coefficients: Vec<f64> = (0..rows.len()).map(|i| i as f64).collect();
     let fold_ours = || {
         let (mut representatives, mut sums, mut counts) = (vec![0; words.len()], vec![0.0; rows.len()], vec![0; rows.len()]);

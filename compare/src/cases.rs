@@ -13,7 +13,7 @@ pub struct Group {
     pub sites: usize,
     pub generators: usize,
     pub orders: [u32; MAX_GENERATORS],
-    pub targets: [u32; TARGETS],
+    pub targets: [u16; TARGETS],
 }
 
 impl Group {
@@ -35,7 +35,7 @@ impl Group {
             Place::Sites => self.sites = value,
             Place::Generators => self.generators = value,
             Place::Order(i) => self.orders[i] = value as u32,
-            Place::Target(i) => self.targets[i] = value as u32,
+            Place::Target(i) => self.targets[i] = value as u16,
         }
     }
 }
@@ -81,6 +81,8 @@ pub enum Line {
         sites: usize,
         bytes: Vec<u8>,
     },
+    /// The word in force, put in the old form.
+    Old,
     Text,
     Weight,
     Compare(Vec<u8>),
@@ -112,6 +114,8 @@ pub enum Line {
     Row(f64),
     /// A row with a whole coefficient.
     Whole(i64),
+    /// The words of the rows, put in the old form, one after the other from the front of their list.
+    OldRows,
     Sum,
     /// A sum with lists of these lengths: words, coefficients, representatives, sums and counts.
     SumOf([usize; 5]),
@@ -172,6 +176,7 @@ impl Display for Line {
             Line::Word(text) if text.is_empty() => write!(f, "word"),
             Line::Word(text) => write!(f, "word {}", visible(text)),
             Line::Bytes { sites, bytes } => write!(f, "{}", format!("bytes {sites} {}", hex(bytes)).trim_end()),
+            Line::Old => write!(f, "old"),
             Line::Text => write!(f, "text"),
             Line::Weight => write!(f, "weight"),
             Line::Compare(bytes) => write!(f, "compare {}", hex(bytes)),
@@ -192,6 +197,7 @@ impl Display for Line {
             Line::Row(coefficient) if coefficient.is_nan() => write!(f, "row nan"),
             Line::Row(coefficient) => write!(f, "row {:016x}", coefficient.to_bits()),
             Line::Whole(coefficient) => write!(f, "whole {coefficient}"),
+            Line::OldRows => write!(f, "old_rows"),
             Line::Sum => write!(f, "sum"),
             Line::SumOf(lengths) => write!(f, "sum{}", list(lengths)),
             Line::Project => write!(f, "project"),
@@ -261,6 +267,19 @@ pub fn letters(sites: usize, word: &[u8]) -> String {
     text
 }
 
+/// The old form of a word; zeros stand for bytes that are not there.
+pub fn old_form(word: &[u8]) -> Vec<u8> {
+    let mut full = word.to_vec();
+    full.resize(WORD_BYTES, 0);
+    full.chunks(PLANE_BYTES).flat_map(|plane| &plane[..OLD_PLANE_BYTES]).copied().collect()
+}
+
+/// Puts the words of so many rows in the old form, one after the other from the front of their list.
+pub fn old_rows(words: &mut [u8], rows: usize) {
+    let old: Vec<u8> = words.chunks(WORD_BYTES).take(rows).flat_map(old_form).collect();
+    words[..old.len()].copy_from_slice(&old);
+}
+
 pub fn bit(plane: &[u8], site: usize) -> usize {
     usize::from(plane[site / 8] >> (site % 8) & 1)
 }
@@ -294,6 +313,11 @@ pub fn steps(answers: &[String]) -> String {
 /// The lengths of the lists of a sum of so many rows: words, coefficients, representatives, and the two other lists of its result.
 pub fn sum_lengths(rows: usize) -> [usize; 5] {
     [WORD_BYTES * rows, rows, WORD_BYTES * rows, rows, rows]
+}
+
+/// The same where the words are in the old form.
+pub fn old_sum_lengths(rows: usize) -> [usize; 5] {
+    [OLD_WORD_BYTES * rows, rows, WORD_BYTES * rows, rows, rows]
 }
 
 /// The rows of a folded sum: word, coefficient by its bits, count.

@@ -15,9 +15,12 @@ pub struct Bounds {
 }
 
 impl Bounds {
-    pub const ALL: Bounds = Bounds { sites: MAX_SITES, order: MAX_ORDER };
+    /// Any order; mostly at most as many sites as the old form of a word has.
+    pub fn all(random: &mut Random) -> Bounds {
+        Bounds { sites: if random.once_in(4) { MAX_SITES } else { OLD_SITES }, order: MAX_ORDER }
+    }
 
-    /// Any number of sites; mostly few elements, since each walk takes as many steps.
+    /// Likewise; mostly few elements, since each walk takes as many steps.
     pub fn common(random: &mut Random) -> Bounds {
         let order = match random.below(1000) {
             0 => 16_384,
@@ -25,14 +28,15 @@ impl Bounds {
             30..=399 => 256,
             _ => 64,
         };
-        Bounds { sites: MAX_SITES, order }
+        Bounds { order, ..Bounds::all(random) }
     }
 
     /// Few sites and few elements, for a list that is replayed.
     pub fn small(random: &mut Random) -> Bounds {
-        match random.below(20) {
+        match random.below(400) {
             0 => Bounds { sites: MAX_SITES, order: 8 },
-            1 => Bounds { sites: 16, order: 512 },
+            1..=19 => Bounds { sites: OLD_SITES, order: 8 },
+            20..=39 => Bounds { sites: 16, order: 512 },
             _ => Bounds { sites: 20, order: 20 },
         }
     }
@@ -68,10 +72,7 @@ impl Generators {
 /// A random group within bounds.
 pub fn group(random: &mut Random, bounds: Bounds) -> Chosen {
     match random.below(8) {
-        0..=1 => {
-            let lattice = lattice(random, bounds);
-            Chosen { line: Line::Lattice(lattice), group: accepted(lattice) }
-        }
+        0..=1 => of_lattice(lattice(random, bounds)),
         2 => {
             let lattice = lattice(random, bounds);
             renumbered(random, lattice).chosen()
@@ -80,13 +81,17 @@ pub fn group(random: &mut Random, bounds: Bounds) -> Chosen {
     }
 }
 
-/// A group of more than so many elements, seldom of as many as there may be.
+/// A group of more than so many elements, seldom of as many as there may be; the more sites, the fewer elements.
 pub fn large_group(random: &mut Random, above: usize) -> Chosen {
     if random.once_in(16) {
         return rings(4, 32).chosen();
     }
-    let order = if random.once_in(12) { MAX_ORDER } else { 2 * above };
-    let mut groups = std::iter::repeat_with(|| commuting(random, Bounds { sites: MAX_SITES, order }).chosen());
+    let bounds = match random.below(12) {
+        0 => Bounds { sites: OLD_SITES, order: MAX_ORDER },
+        1 => Bounds { sites: MAX_SITES, order: 2 * above },
+        _ => Bounds { sites: OLD_SITES, order: 2 * above },
+    };
+    let mut groups = std::iter::repeat_with(|| commuting(random, bounds).chosen());
     groups.find(|chosen| chosen.group.order() > above).unwrap()
 }
 
@@ -95,13 +100,34 @@ pub fn accepted(lattice: Lattice) -> TranslationGroup {
     lattice_group(lattice).unwrap_or_else(|refusal| panic!("{lattice}: {refusal}"))
 }
 
-/// A lattice; its order is at most its sites.
+/// The group of a lattice and its line.
+pub fn of_lattice(lattice: Lattice) -> Chosen {
+    Chosen { line: Line::Lattice(lattice), group: accepted(lattice) }
+}
+
+/// Lattices of more sites than the old form of a word has: some of as many as there may be, a sheet of 40 by 40, and one just above.
+pub const WIDE: [Lattice; 8] = [
+    Lattice::Chain(MAX_SITES),
+    Lattice::Ladder(MAX_SITES / 2, 2),
+    Lattice::Ladder(2, MAX_SITES / 2),
+    Lattice::Torus2(128, 16),
+    Lattice::Torus2(40, 40),
+    Lattice::Torus3(16, 16, 8),
+    Lattice::Torus3(11, 13, 14),
+    Lattice::Chain(OLD_SITES + 1),
+];
+
+/// A lattice; its order is at most its sites. Where there may be so many sites, seldom a wide one, whatever its order.
 pub fn lattice(random: &mut Random, bounds: Bounds) -> Lattice {
     let most = bounds.sites.min(bounds.order);
+    if most >= 64 && bounds.sites == MAX_SITES && random.once_in(32) {
+        return random.pick(&WIDE);
+    }
     let sites = if random.once_in(2) { random.within(1..=most) } else { 1 + random.size(most - 1) };
     let (a, b, c) = sides(random, sites);
     match random.below(4) {
         0 => Lattice::Chain(sites),
+        1 if random.once_in(2) => Lattice::Ladder(a, random.within(1..=bounds.sites / a)),
         1 => Lattice::Ladder(a, b * c),
         2 => Lattice::Torus2(a, b * c),
         _ => Lattice::Torus3(a, b, c),
@@ -161,7 +187,7 @@ fn commuting(random: &mut Random, bounds: Bounds) -> Generators {
     Generators { sites, permutations, orders }
 }
 
-/// A power of a permutation whose order is at most a bound, and that order.
+/// A power of a permutation whose order is at most a bound, and that order. The permutation is a product of so few shifts that its own fits 64 bits.
 fn power_within(random: &mut Random, permutation: &[u32], bound: u64) -> (Permutation, u64) {
     let exact = exact_order(permutation);
     if exact <= bound {
@@ -187,11 +213,17 @@ fn prime_factors(mut number: u64) -> Vec<u64> {
     unreachable!()
 }
 
-/// A number of sites: any, few, or one beside the end of a byte or of a machine word.
+/// Numbers of sites beside the end of a byte, of a machine word, of the old form of a word, or of a word.
+#[rustfmt::skip]
+const EDGES: [usize; 30] = [
+    0, 1, 2, 7, 8, 9, 31, 32, 33, 63, 64, 65, 127, 128, 129, 191, 192, 255, 256, 257, 319, 320, 511, 512, 1023, 1024, 1025, 1985, 2047, 2048,
+];
+
+/// A number of sites: any, few, or one beside an end.
 pub fn site_count(random: &mut Random, bound: usize) -> usize {
     match random.below(4) {
         0..=1 => random.within(0..=bound),
-        2 => random.pick(&[0, 1, 2, 7, 8, 9, 31, 32, 33, 63, 64, 65, 127, 128, 129, 191, 192, 255, 256]).min(bound),
+        2 => random.pick(&EDGES[..EDGES.partition_point(|&edge| edge <= bound)]),
         _ => random.size(bound),
     }
 }
@@ -277,10 +309,11 @@ fn relabelled(permutation: &[u32], labels: &[u32]) -> Permutation {
     result
 }
 
-/// The least common multiple of the cycle lengths; on 256 sites it has at most 55 bits.
+/// The least common multiple of the cycle lengths, or the largest number of 64 bits where that has more: on 256 sites it has at most 55, on 2,048 up to
+/// some 180.
 fn exact_order(permutation: &[u32]) -> u64 {
     let mut seen = vec![false; permutation.len()];
-    let mut order = 1;
+    let mut order = 1u64;
     for start in 0..permutation.len() {
         let (mut length, mut q) = (0, start);
         while !seen[q] {
@@ -289,7 +322,8 @@ fn exact_order(permutation: &[u32]) -> u64 {
             q = permutation[q] as usize;
         }
         if length > 0 {
-            order = order / gcd(order, length) * length;
+            let Some(multiple) = (order / gcd(order, length)).checked_mul(length) else { return u64::MAX };
+            order = multiple;
         }
     }
     order
@@ -319,7 +353,7 @@ pub fn case(random: &mut Random, bounds: Bounds) -> Case {
 
 /// A generator list with up to three faults, and the order of what it gives.
 pub fn faulty_case(random: &mut Random, bounds: Bounds) -> Case {
-    let mut generators = if random.once_in(3) { long_cycles(random) } else { commuting(random, bounds) };
+    let mut generators = if random.once_in(3) { long_cycles(random, bounds) } else { commuting(random, bounds) };
     for _ in 0..random.below(4) {
         spoil(random, &mut generators);
     }
@@ -331,11 +365,14 @@ pub fn faulty_case(random: &mut Random, bounds: Bounds) -> Case {
 }
 
 /// Generators of high order: powers of a permutation whose cycles have different prime lengths.
-fn long_cycles(random: &mut Random) -> Generators {
+fn long_cycles(random: &mut Random, bounds: Bounds) -> Generators {
     let mut lengths = vec![2, 3, 4, 5, 7, 11, 13, 17, 19, 23, 29, 31, 37, 109];
+    if bounds.sites > OLD_SITES {
+        lengths.extend([41, 43, 47, 53, 59, 61, 251, 257]);
+    }
     random.shuffle(&mut lengths);
-    lengths.truncate(random.within(3..=10));
-    while lengths.iter().sum::<usize>() > MAX_SITES {
+    lengths.truncate(random.within(3..=lengths.len() - 4));
+    while lengths.iter().sum::<usize>() > bounds.sites.max(OLD_SITES) {
         lengths.pop();
     }
     let permutation = cycles(&lengths);
@@ -345,8 +382,8 @@ fn long_cycles(random: &mut Random) -> Generators {
 }
 
 /// One or two permutations by their cycle lengths, with their exact orders or others.
-pub fn cycle_case(random: &mut Random, _: Bounds) -> Case {
-    let lengths = cycle_lengths(random);
+pub fn cycle_case(random: &mut Random, bounds: Bounds) -> Case {
+    let lengths = cycle_lengths(random, bounds.sites);
     let sites = lengths.iter().sum();
     let permutation = relabelled(&cycles(&lengths), &labels(random, sites));
     let exponent = 1 + random.bits() % 4;
@@ -354,23 +391,25 @@ pub fn cycle_case(random: &mut Random, _: Bounds) -> Case {
     let declared = |permutation: &Permutation| {
         let exact = exact_order(permutation);
         let divisor = lengths.get(random.below(lengths.len().max(1))).map_or(1, |&length| length as u64);
-        random.pick(&[exact, exact, exact / divisor, exact * 2, 1, 0]) as u32
+        random.pick(&[exact, exact, exact / divisor, exact.wrapping_mul(2), 1, 0]) as u32
     };
     let orders = permutations.iter().map(declared).collect();
     vec![Generators { sites, permutations, orders }.line(), Line::Order, Line::Modulus]
 }
 
-/// Cycle lengths, mostly equal ones, all of them different, or any, in any order.
-fn cycle_lengths(random: &mut Random) -> Vec<usize> {
+/// Cycle lengths of up to so many sites, mostly equal ones, all of them different, or any, in any order.
+fn cycle_lengths(random: &mut Random, sites: usize) -> Vec<usize> {
+    // The most numbers from 1 on whose sum is at most the sites.
+    let different = ((8 * sites + 1).isqrt() - 1) / 2;
     let mut lengths = match random.below(3) {
         0 => vec![random.within(1..=16)],
-        1 => (1..=random.within(1..=22)).collect(),
+        1 => (1..=random.within(1..=different)).collect(),
         _ => Vec::new(),
     };
-    let repeats = if lengths.len() == 1 { random.within(1..=MAX_SITES / lengths[0]) } else { 1 };
+    let repeats = if lengths.len() == 1 { random.within(1..=sites / lengths[0]) } else { 1 };
     lengths = lengths.repeat(repeats);
     for _ in 0..random.below(4) {
-        let left = MAX_SITES - lengths.iter().sum::<usize>();
+        let left = sites - lengths.iter().sum::<usize>();
         if left > 0 {
             lengths.push(1 + random.size(left - 1));
         }
@@ -396,8 +435,8 @@ fn spoil(random: &mut Random, generators: &mut Generators) {
         (4, Some(permutation)) => permutation.push(random.below(*sites % MAX_SITES + 2) as u32),
         (5, Some(permutation)) if !permutation.is_empty() => {
             let any = random.bits() as u32;
-            let target = random.pick(&[*sites as u32, u32::MAX, any, permutation[0]]);
             let q = random.below(permutation.len());
+            let target = random.pick(&[*sites as u32, u32::MAX, any, permutation[0], permutation[q] | 1 << 16]);
             permutation[q] = target;
         }
         (6, Some(permutation)) if permutation.len() > 1 => {

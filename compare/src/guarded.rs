@@ -49,29 +49,33 @@ pub fn cases() -> Vec<Case> {
 fn texts() -> Vec<Case> {
     let mut texts = vec![vec![], b"XYZI_".to_vec(), b"XIx".to_vec()];
     texts.extend((0..=u8::MAX).map(|letter| vec![letter]));
-    for length in [MAX_SITES, MAX_SITES + 1, 4096] {
+    for length in [OLD_SITES, OLD_SITES + 1, MAX_SITES, MAX_SITES + 1, 4096] {
         let letters = vec![b'X'; length];
         texts.extend([letters.clone(), [b"_", &letters[1..]].concat(), [&letters[1..], b"_"].concat()]);
     }
     texts.into_iter().map(|text| vec![Line::Word(text), Line::Text, Line::Weight]).collect()
 }
 
-/// Good and bad bytes of a word of SITES sites.
+/// Good and bad bytes of a word of SITES sites, in full and in the old form.
 fn byte_lists() -> Vec<Vec<u8>> {
-    let good = word_bytes(TEXT);
-    let with = |byte: usize, value: u8| {
-        let mut bytes = good.clone();
-        bytes[byte] |= value;
-        bytes
+    let full = word_bytes(TEXT);
+    let of_form = |good: Vec<u8>| {
+        let (plane, word) = (good.len() / 2, good.len());
+        let with = |byte: usize, value: u8| {
+            let mut bytes = good.clone();
+            bytes[byte] |= value;
+            bytes
+        };
+        let above = [with(0, 0x40), with(plane, 0x40), with(plane - 1, 0x80), with(word - 1, 0x80)];
+        let longer = [&with(0, 0x40)[..], &[0]].concat();
+        let lengths = [good[..plane].to_vec(), good[..word - 1].to_vec(), [&good[..], &[0]].concat(), longer];
+        [vec![good.clone()], above.to_vec(), lengths.to_vec()].concat()
     };
-    let above = [with(0, 0x40), with(PLANE_BYTES, 0x40), with(PLANE_BYTES - 1, 0x80), with(WORD_BYTES - 1, 0x80)];
-    let longer = [&with(0, 0x40)[..], &[0]].concat();
-    let lengths = [vec![], good[..PLANE_BYTES].to_vec(), good[..WORD_BYTES - 1].to_vec(), [&good[..], &[0]].concat(), longer];
-    [vec![good.clone()], above.to_vec(), lengths.to_vec()].concat()
+    [of_form(full.clone()), of_form(old_form(&full)), vec![vec![]]].concat()
 }
 
-fn site_counts() -> [usize; 6] {
-    [SITES, SITES - 1, SITES + 1, 0, MAX_SITES + 1, usize::MAX]
+fn site_counts() -> [usize; 9] {
+    [SITES, SITES - 1, SITES + 1, 0, OLD_SITES, OLD_SITES + 1, MAX_SITES, MAX_SITES + 1, usize::MAX]
 }
 
 /// Every site count with every list of bytes.
@@ -88,7 +92,7 @@ fn words_alone() -> Vec<Case> {
 // ---- groups
 
 fn lattices() -> Vec<Case> {
-    let sides = [0, 1, 2, 3, 16, 17, 128, MAX_SITES, MAX_SITES + 1, 1 << 32, 1 << 63, usize::MAX];
+    let sides = [0, 1, 2, 3, 16, 17, 40, 128, OLD_SITES + 1, MAX_SITES, MAX_SITES + 1, 1 << 32, 1 << 63, usize::MAX];
     let mut lattices: Vec<Lattice> = sides.map(Lattice::Chain).to_vec();
     for a in sides {
         lattices.extend(sides.map(|b| Lattice::Ladder(a, b)));
@@ -200,7 +204,7 @@ fn forgeries() -> Vec<(Place, usize)> {
         (Place::Order(3), 1),
         (Place::Target(0), 0),
         (Place::Target(0), SITES),
-        (Place::Target(0), u32::MAX as usize),
+        (Place::Target(0), u16::MAX as usize),
         (Place::Target(SITES), 1),
         (Place::Target(MAX_SITES - 1), 1),
         (Place::Target(MAX_SITES), 0),
@@ -309,26 +313,46 @@ fn row_lists() -> Vec<Case> {
     [none, kinds.to_vec(), pairs, threes].concat()
 }
 
-/// The lengths of the five lists of so many rows: as they must be, and each one otherwise.
-fn list_lengths(rows: usize) -> Vec<[usize; 5]> {
-    let right = sum_lengths(rows);
+/// Lengths of the five lists as they must be, and each one otherwise; of many rows, only longer ones.
+fn with_others(right: [usize; 5]) -> Vec<[usize; 5]> {
+    let rows = right[1];
     let mut all = vec![right];
-    for changed in 0..right.len() {
-        for value in [0, right[changed].saturating_sub(1), right[changed] + 1, right[changed] + WORD_BYTES] {
+    for (changed, &length) in right.iter().enumerate() {
+        let others = [length + 1, length + OLD_WORD_BYTES, length + WORD_BYTES, length.saturating_sub(1), OLD_WORD_BYTES * rows, 0];
+        for &other in &others[..if rows < MAX_ROWS { others.len() } else { 1 }] {
             let mut lengths = right;
-            lengths[changed] = value;
+            lengths[changed] = other;
             all.push(lengths);
         }
     }
     all
 }
 
+/// The lengths of the lists of so many rows, and those for words in the old form.
+fn list_lengths(rows: usize) -> Vec<[usize; 5]> {
+    [with_others(sum_lengths(rows)), vec![old_sum_lengths(rows)]].concat()
+}
+
+/// Lists of words in the old form under a group of too many sites for it, of as many as it may have, and of few; the first has 22, 23 and 36 before any
+/// rule of a row. The phase modulus of all divides the entries of a turn.
+fn old_sums(rows: &[Case], sum: fn([usize; 5]) -> Line) -> Vec<Case> {
+    let legs = [OLD_SITES / 2 + 1, OLD_SITES / 2, SITES / 2];
+    let groups = legs.map(|legs| vec![Line::Lattice(Lattice::Ladder(2, legs)), Line::Modes(vec![1])]);
+    let lengths = ROW_COUNTS.into_iter().flat_map(|rows| with_others(old_sum_lengths(rows))).map(sum).collect();
+    cross(&cross(&cross(&groups, rows), &[vec![], vec![Line::OldRows]]), &[lengths])
+}
+
 fn sums() -> Vec<Case> {
     let rows = cross(&[vec![Line::Clear]], &row_lists());
     let lengths = ROW_COUNTS.into_iter().flat_map(list_lengths).map(Line::SumOf).collect();
     let of_rows = cross(&cross(&some_group_values(), &rows), &[vec![Line::Sum]]);
+    let of_old_rows = |case: Case| {
+        let count = case.iter().filter(|line| matches!(line, Line::Row(_))).count();
+        [&case[..], &[Line::OldRows, Line::SumOf(old_sum_lengths(count))]].concat()
+    };
+    let old: Vec<Case> = of_rows.iter().cloned().map(of_old_rows).collect();
     let of_lengths = cross(&cross(&some_group_values(), &rows[..20]), &[lengths]);
-    [of_rows, of_lengths].concat()
+    [of_rows, old, of_lengths, old_sums(&rows[..12], Line::SumOf)].concat()
 }
 
 // ---- projected sums
@@ -368,11 +392,11 @@ fn projections() -> Vec<Case> {
     let asked = |case: Case| {
         let mut lengths = sum_lengths(case.iter().filter(|line| matches!(line, Line::Whole(_))).count());
         lengths[4] += 1;
-        [&case[..], &[Line::Project, Line::ProjectOf(lengths)]].concat()
+        [&case[..], &[Line::Project, Line::ProjectOf(lengths), Line::OldRows, Line::ProjectOf(old_sum_lengths(lengths[1]))]].concat()
     };
     let lengths = ROW_COUNTS.into_iter().flat_map(list_lengths).map(Line::ProjectOf).collect();
     let of_lengths = cross(&cross(&groups, &rows[..4]), &[lengths]);
-    [of_rows.into_iter().map(asked).collect(), of_lengths].concat()
+    [of_rows.into_iter().map(asked).collect(), of_lengths, old_sums(&rows[..12], Line::ProjectOf)].concat()
 }
 
 // ---- phase tables
@@ -450,9 +474,9 @@ fn phase_files() -> Vec<Case> {
 #[rustfmt::skip]
 const SHAPES: [&str; 24] = [
     "chain 4 0 0", "ladder 2 2 0", "torus2 2 2 0", "torus3 1 2 2", "ladder 4 1 0", "chain 4 1 0", "chain 4 0 1", "ladder 2 2 1", "chain 0 0 0",
-    "torus2 0 4 0", "torus3 2 0 257", "chain 257 0 0", "torus3 7 7 7", "chain 99999999999999999999999 0 0",
+    "torus2 0 4 0", "torus3 2 0 2049", "chain 2049 0 0", "torus3 13 13 13", "chain 99999999999999999999999 0 0",
     "torus2 99999999999999999999999 0 0", "chain 04 0 0", "chain -4 0 0", "ring 4 0 0", "chain 4 0", "chain 4 0 0 0", "chain  4 0 0",
-    "chain 4 0 0 ", "", "torus2 16 16 0",
+    "chain 4 0 0 ", "", "torus2 64 32 0",
 ];
 
 #[rustfmt::skip]
@@ -492,11 +516,20 @@ fn long_sheets() -> [String; 3] {
     [whole.clone(), padded(MAX_SHEET), padded(MAX_SHEET + 1)]
 }
 
+/// A sheet of 40 by 40 sites and one of as many as there may be: words of a row repeated, which are kept and dropped, and one that is cut.
+fn wide_sheets() -> [String; 2] {
+    let rows = |line: &str, lines: usize, modes: &str| format!("{} {modes}\n", line.repeat(lines));
+    let torus = rows(&"XIYZI".repeat(8), 40, "0 0 0") + &rows(&"XIYZI".repeat(8), 40, "8 1 0") + &rows(&"XIYZ".repeat(10), 39, "0 0 0");
+    let chain = rows("XIYZ", MAX_SITES / 4, "512 0 0") + &rows("XIYZ", MAX_SITES / 4, "1 0 0");
+    let head = |shape: &str| format!("shape a b c\n{shape}\nword k0 k1 k2\n");
+    [head("torus2 40 40 0") + &torus, head(&format!("chain {MAX_SITES} 0 0")) + &chain]
+}
+
 /// Sheets, into lists that are long enough, just long enough, and too short.
 fn sheets() -> Vec<Case> {
     let case = |places: usize, sheet: &str| vec![Line::Sheet { places, text: sheet.as_bytes().to_vec() }];
     let mut cases: Vec<Case> = long_sheets().iter().map(|sheet| case(MAX_TABLE, sheet)).collect();
-    for sheet in sheet_texts() {
+    for sheet in sheet_texts().into_iter().chain(wide_sheets()) {
         let printed = sheet::printed(sheet.as_bytes()).len();
         cases.extend([MAX_TABLE.min(2 * printed), printed, printed - 1, 0].map(|places| case(places, &sheet)));
     }

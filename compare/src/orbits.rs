@@ -4,7 +4,7 @@ use crate::cases::*;
 use crate::groups::{self, Bounds, Chosen};
 use crate::random::Random;
 use crate::sizes::*;
-use crate::words;
+use crate::{sectors, words};
 
 /// Least words and the way back, for some words of a group, and the whole orbit of one.
 pub fn case(random: &mut Random, bounds: Bounds) -> Case {
@@ -12,7 +12,9 @@ pub fn case(random: &mut Random, bounds: Bounds) -> Case {
     let (order, places) = (group.order(), group.n_generators());
     let mut case = vec![line];
     for _ in 0..random.within(1..=3) {
-        case.extend([Line::Word(words::word(random, &group)), Line::WithIndex]);
+        let word = words::word(random, &group);
+        case.extend(words::handed_over(random, word));
+        case.push(Line::WithIndex);
     }
     case.extend([Line::Canonicalize, Line::WithShift { places }]);
     if order <= 1024 {
@@ -25,18 +27,35 @@ pub fn case(random: &mut Random, bounds: Bounds) -> Case {
     case
 }
 
+/// Two words of a wide lattice, for a list that is replayed: each call that walks it, and few steps.
+pub fn wide_case(random: &mut Random, _: Bounds) -> Case {
+    let Chosen { line, group } = groups::of_lattice(random.pick(&groups::WIDE));
+    let places = group.n_generators();
+    let mut case = vec![line, Line::Order, Line::Modes(sectors::modes(random, &group))];
+    for _ in 0..2 {
+        case.push(Line::Word(words::word(random, &group)));
+        case.extend([Line::Text, Line::Weight, Line::WithShift { places }, Line::Sector { places }, Line::Orbit, Line::Next(3)]);
+    }
+    case
+}
+
 /// A word of a group of more than 100,000 elements: the calls that walk it, once each.
 pub fn large_case(random: &mut Random, _: Bounds) -> Case {
     let Chosen { line, group } = groups::large_group(random, 100_000);
     let (order, places) = (group.order(), group.n_generators());
     let word = words::word(random, &group);
     let index = random.below(order);
-    let mut case = vec![line, Line::Order, Line::Modulus, Line::Word(word), Line::WithIndex, Line::Invert(index)];
+    let mut case = vec![line, Line::Order, Line::Modulus];
+    case.extend(words::handed_over(random, word));
+    case.extend([Line::WithIndex, Line::Invert(index)]);
     let zeros = random.once_in(2);
     case.push(Line::Modes((0..places).map(|_| if zeros { 0 } else { random.bits() as i32 }).collect()));
     case.extend([Line::Sector { places }, Line::Counter { index, places }]);
     if random.once_in(8) {
-        case.extend([Line::OrbitList { bytes: WORD_BYTES * order }, Line::Table { places: order }]);
+        case.push(Line::Table { places: order });
+        if group.n_qubits() <= OLD_SITES {
+            case.push(Line::OrbitList { bytes: WORD_BYTES * order });
+        }
     }
     case
 }

@@ -32,7 +32,7 @@ struct GroupRoom {
     sites: Lent<usize>,
     generators: Lent<usize>,
     orders: Lent<u32>,
-    targets: Lent<u32>,
+    targets: Lent<u16>,
 }
 
 impl Ours {
@@ -75,6 +75,7 @@ impl Ours {
             Line::Invert(index) => self.invert_index(*index),
             Line::Word(text) => self.from_text(text),
             Line::Bytes { sites, bytes } => set(|| (self.sites, self.word) = (*sites, bytes.clone())),
+            Line::Old => set(|| self.word = old_form(&self.word)),
             Line::Text => self.to_text(),
             Line::Weight => self.weight(),
             Line::Compare(bytes) => self.compare(bytes),
@@ -94,6 +95,7 @@ impl Ours {
             Line::Clear => set(|| (self.words, self.coefficients, self.wholes) = (Vec::new(), Vec::new(), Vec::new())),
             Line::Row(coefficient) => set(|| self.row(*coefficient, 0)),
             Line::Whole(coefficient) => set(|| self.row(0.0, *coefficient)),
+            Line::OldRows => set(|| old_rows(&mut self.words, self.coefficients.len())),
             Line::Sum => self.canonicalize_pauli_sum(sum_lengths(self.coefficients.len())),
             Line::SumOf(lengths) => self.canonicalize_pauli_sum(*lengths),
             Line::Project => self.project_pauli_sum(sum_lengths(self.wholes.len())),
@@ -172,7 +174,7 @@ impl Ours {
     }
 
     /// `gomurin_order` or `gomurin_phase_modulus`.
-    fn order(&mut self, call: unsafe extern "C" fn(usize, usize, *const u32, *const u32, *mut usize, *mut usize) -> usize) -> String {
+    fn order(&mut self, call: unsafe extern "C" fn(usize, usize, *const u32, *const u16, *mut usize, *mut usize) -> usize) -> String {
         let m = &mut self.memory;
         let (group, number, values) = (lend_group(m, &self.group), m.room(1), m.room(VALUES));
         let rule = call_of_group!(call, group, number.at, values.at);
@@ -357,7 +359,7 @@ impl Ours {
             // Empty lists are both as they were and zeros.
             let lists = match rule {
                 25 if zero => "zeros",
-                1..25 if stayed => "as they were",
+                1..25 | 36 if stayed => "as they were",
                 _ => "changed",
             };
             return format!("{refused}, {lists}");
@@ -464,7 +466,7 @@ impl GroupRoom {
         GroupRoom { sites, generators, orders: memory.room(MAX_GENERATORS), targets: memory.room(TARGETS) }
     }
 
-    fn at(&self) -> (*mut usize, *mut usize, *mut u32, *mut u32) {
+    fn at(&self) -> (*mut usize, *mut usize, *mut u32, *mut u16) {
         (self.sites.at, self.generators.at, self.orders.at, self.targets.at)
     }
 

@@ -48,17 +48,17 @@ fn parts(seed: u64, count: usize) -> Vec<Part> {
     let counted = exhaustive::counted();
     let pairs = move |number: usize| exhaustive::count_pairs(counted[number].0, &counted[number].1);
     vec![
-        random("words", 1_000, |_| Bounds::ALL, words::case),
-        random("groups", 1_500, |_| Bounds::ALL, groups::case),
-        random("lists", 2_000, |_| Bounds::ALL, groups::faulty_case),
-        random("cycles", 500, |_| Bounds::ALL, groups::cycle_case),
+        random("words", 1_000, Bounds::all, words::case),
+        random("groups", 1_500, Bounds::all, groups::case),
+        random("lists", 2_000, Bounds::all, groups::faulty_case),
+        random("cycles", 500, Bounds::all, groups::cycle_case),
         random("orbits", 2_500, Bounds::common, orbits::case),
         random("sectors", 2_000, Bounds::common, sectors::case),
         random("sums", 500, Bounds::common, sums::case),
         random("projections", 500, Bounds::common, projections::case),
         random("tables", 250, Bounds::common, tables::case),
         random("forged", 500, Bounds::common, guarded::forged_case),
-        random("large", 2, |_| Bounds::ALL, orbits::large_case),
+        random("large", 2, Bounds::all, orbits::large_case),
         listed("exhaustive", exhaustive::cases()),
         Part { name: "pairs", count: exhaustive::counted().len(), kind: Kind::Check(Box::new(pairs)) },
         listed("guarded", guarded::cases()),

@@ -6,7 +6,7 @@ use crate::groups::{self, Bounds, Chosen};
 use crate::random::Random;
 use crate::rust::{Row, Word, word};
 use crate::sizes::*;
-use crate::sums::moved;
+use crate::sums::{moved, work};
 use crate::tables::Table;
 use crate::{sectors, words};
 use ppvm_pauli_sum::symmetry::group::TranslationGroup;
@@ -17,7 +17,7 @@ use std::collections::BTreeMap;
 pub const UNIT: i64 = 1 << 30;
 
 /// By a phase table: how many rows are kept, and the representatives of these with their sums, in rising order.
-pub fn project(table: &Table, group: &TranslationGroup, modes: &[i32], rows: &[Row]) -> (usize, BTreeMap<Word, [i128; 2]>) {
+pub fn project(table: &Table, group: &TranslationGroup, modes: &[i32], rows: &[Row<i64>]) -> (usize, BTreeMap<Word, [i128; 2]>) {
     let mut kept = 0;
     let mut sums = BTreeMap::new();
     for row in rows {
@@ -29,7 +29,7 @@ pub fn project(table: &Table, group: &TranslationGroup, modes: &[i32], rows: &[R
         let representative = group.canonicalize(&word);
         let entry = entry(group, modes, &representative, &word);
         let sum = sums.entry(representative).or_insert([0; 2]);
-        *sum = [0, 1].map(|i| sum[i] + i128::from(row.whole) * i128::from(table[i][entry]));
+        *sum = [0, 1].map(|i| sum[i] + i128::from(row.coefficient) * i128::from(table[i][entry]));
     }
     (kept, sums)
 }
@@ -66,10 +66,10 @@ fn word_text(random: &mut Random, group: &TranslationGroup) -> Vec<u8> {
     if random.once_in(2) { words::word(random, group) } else { words::text(random, group.n_qubits()) }
 }
 
-/// A sum of up to some dozen rows, seldom of many, under two mode lists.
+/// A sum of up to some dozen rows, seldom of many, in either form, under two mode lists.
 pub fn case(random: &mut Random, bounds: Bounds) -> Case {
     let Chosen { line, group } = group(random, bounds);
-    let work = 100_000 / group.order();
+    let work = work(&group, 100_000);
     let rows = if random.once_in(100) { random.size(MAX_ROWS).min(work) } else { random.within(0..=40).min(work) };
     let orbits: Vec<Vec<u8>> = (0..random.within(1..=8)).map(|_| word_text(random, &group)).collect();
     let mut case = vec![line, Line::Clear];
@@ -78,9 +78,16 @@ pub fn case(random: &mut Random, bounds: Bounds) -> Case {
         let word = if random.once_in(4) { word_text(random, &group) } else { moved(random, &orbits, &group) };
         case.extend([Line::Word(word), Line::Whole(coefficient(random, small))]);
     }
+    let project = if words::as_old(random, group.n_qubits()) {
+        case.push(Line::OldRows);
+        Line::ProjectOf(old_sum_lengths(rows))
+    } else {
+        Line::Project
+    };
     for _ in 0..2 {
-        case.extend([Line::Modes(modes(random, &group)), Line::Project]);
+        case.extend([Line::Modes(modes(random, &group)), project.clone()]);
     }
+    case.push(Line::Clear);
     case
 }
 

@@ -15,6 +15,9 @@ use std::collections::HashMap;
 /// The Rust's word with as many bytes a plane as ours.
 pub type Word = PauliWord<[u8; PLANE_BYTES]>;
 
+/// The Rust's word with as many bytes a plane as the old form.
+pub type OldWord = PauliWord<[u8; OLD_PLANE_BYTES]>;
+
 type Answer = Result<String, Refusal>;
 
 /// What is in force between the lines of a case.
@@ -24,16 +27,16 @@ pub struct Rust {
     word: Vec<u8>,
     modes: Vec<i32>,
     walk: Walk,
-    rows: Vec<Row>,
+    words: Vec<u8>,
+    coefficients: Vec<f64>,
+    wholes: Vec<i64>,
     table: Table,
 }
 
-/// A row of a sum: a word with a coefficient as a float and one as a whole number; one of the two is 0.
-#[derive(Clone)]
-pub struct Row {
+/// A row of a sum: a word, in full, with its coefficient, which is a float or a whole number.
+pub struct Row<C> {
     pub word: Vec<u8>,
-    pub coefficient: f64,
-    pub whole: i64,
+    pub coefficient: C,
 }
 
 /// A group value, and the Rust's group where accepted generators give that value.
@@ -53,7 +56,8 @@ impl Rust {
     pub fn new() -> Rust {
         let group = Made::of(Group::EMPTY);
         let walk = Walk { group: group.clone(), at: vec![0; WORD_BYTES], index: 0 };
-        Rust { group, sites: 0, word: Vec::new(), modes: Vec::new(), walk, rows: Vec::new(), table: tables::constant() }
+        let (words, coefficients, wholes) = (Vec::new(), Vec::new(), Vec::new());
+        Rust { group, sites: 0, word: Vec::new(), modes: Vec::new(), walk, words, coefficients, wholes, table: tables::constant() }
     }
 
     /// The Rust's group in force, if there is one.
@@ -74,6 +78,7 @@ impl Rust {
             Line::Invert(index) => said(self.invert_index(*index)),
             Line::Word(text) => said(self.from_text(text)),
             Line::Bytes { sites, bytes } => set(|| (self.sites, self.word) = (*sites, bytes.clone())),
+            Line::Old => set(|| self.word = old_form(&self.word)),
             Line::Text => said(self.read_word().map(|word| word.to_string())),
             Line::Weight => said(self.read_word().map(|word| word.weight().to_string())),
             Line::Compare(bytes) => said(self.compare(bytes)),
@@ -90,12 +95,13 @@ impl Rust {
             Line::Numerator(digits) => said(self.character_numerator(digits)),
             Line::Table { places } => self.character_table(*places),
             Line::Sector { places } => self.canonicalize_in_sector(*places),
-            Line::Clear => set(|| self.rows.clear()),
+            Line::Clear => set(|| (self.words, self.coefficients, self.wholes) = (Vec::new(), Vec::new(), Vec::new())),
             Line::Row(coefficient) => set(|| self.row(*coefficient, 0)),
             Line::Whole(coefficient) => set(|| self.row(0.0, *coefficient)),
-            Line::Sum => self.canonicalize_pauli_sum(sum_lengths(self.rows.len())),
+            Line::OldRows => set(|| old_rows(&mut self.words, self.coefficients.len())),
+            Line::Sum => self.canonicalize_pauli_sum(sum_lengths(self.coefficients.len())),
             Line::SumOf(lengths) => self.canonicalize_pauli_sum(*lengths),
-            Line::Project => self.project_pauli_sum(sum_lengths(self.rows.len())),
+            Line::Project => self.project_pauli_sum(sum_lengths(self.wholes.len())),
             Line::ProjectOf(lengths) => self.project_pauli_sum(*lengths),
             Line::PhaseTable => set(|| self.table = tables::constant()),
             Line::PhaseFile(file) => self.read_phase_table(file),
@@ -116,16 +122,16 @@ impl Rust {
     /// The word in force, by the rules of a word alone.
     fn read_word(&self) -> Result<Word, Refusal> {
         check(1, self.sites > MAX_SITES)?;
-        check(15, self.word.len() != WORD_BYTES)?;
-        check(17, has_bit_above(self.sites, &self.word))?;
-        Ok(word(self.sites, &self.word))
+        let [bytes] = in_full(self.sites, [&self.word])?;
+        check(17, has_bit_above(self.sites, &bytes))?;
+        Ok(word(self.sites, &bytes))
     }
 
     fn compare(&self, other: &[u8]) -> Answer {
         check(1, self.sites > MAX_SITES)?;
-        check(15, self.word.len() != WORD_BYTES || other.len() != WORD_BYTES)?;
-        check(17, has_bit_above(self.sites, &self.word) || has_bit_above(self.sites, other))?;
-        Ok(ordering(word(self.sites, &self.word).cmp(&word(self.sites, other))).to_string())
+        let [a, b] = in_full(self.sites, [&self.word, other])?;
+        check(17, has_bit_above(self.sites, &a) || has_bit_above(self.sites, &b))?;
+        Ok(ordering(word(self.sites, &a).cmp(&word(self.sites, &b))).to_string())
     }
 
     // ---- groups
@@ -166,10 +172,10 @@ impl Rust {
     fn check_word(&self) -> Result<(&TranslationGroup, Word), Refusal> {
         check(1, self.group.value.sites > MAX_SITES || self.sites > MAX_SITES)?;
         let group = self.group.check()?;
-        check(15, self.word.len() != WORD_BYTES)?;
+        let [bytes] = in_full(self.sites, [&self.word])?;
         check(16, self.sites != group.n_qubits())?;
-        check(17, has_bit_above(self.sites, &self.word))?;
-        Ok((group, word(self.sites, &self.word)))
+        check(17, has_bit_above(self.sites, &bytes))?;
+        Ok((group, word(self.sites, &bytes)))
     }
 
     fn canonicalize_with_index(&self) -> Answer {
@@ -268,7 +274,9 @@ impl Rust {
     fn row(&mut self, coefficient: f64, whole: i64) {
         let mut word = self.word.clone();
         word.resize(WORD_BYTES, 0);
-        self.rows.push(Row { word, coefficient, whole });
+        self.words.extend(word);
+        self.coefficients.push(coefficient);
+        self.wholes.push(whole);
     }
 
     fn canonicalize_pauli_sum(&self, lengths: [usize; 5]) -> String {
@@ -279,30 +287,20 @@ impl Rust {
     }
 
     /// The lengths are those of the words, coefficients, representatives, sums and counts.
-    fn fold(&self, [words, coefficients, representatives, sums, counts]: [usize; 5]) -> Answer {
+    fn fold(&self, lengths: [usize; 5]) -> Answer {
         let group = self.group.check()?;
-        let rows = coefficients;
-        check(22, [words, coefficients, representatives, sums, counts] != sum_lengths(rows))?;
-        check(23, rows > MAX_ROWS)?;
-        let taken = self.taken(rows);
-        for (i, row) in taken.iter().enumerate() {
+        let rows = check_rows(group, lengths, &self.words, &self.coefficients)?;
+        for (i, row) in rows.iter().enumerate() {
             check_row(17, i, has_bit_above(group.n_qubits(), &row.word))?;
             check_row(24, i, !row.coefficient.is_finite())?;
         }
-        let mut basis: Vec<Word> = taken.iter().map(|row| word(group.n_qubits(), &row.word)).collect();
-        let mut coefficients: Vec<f64> = taken.iter().map(|row| row.coefficient).collect();
+        let mut basis: Vec<Word> = rows.iter().map(|row| word(group.n_qubits(), &row.word)).collect();
+        let mut coefficients: Vec<f64> = rows.iter().map(|row| row.coefficient).collect();
         let counts = count_rows(group, &basis, &coefficients)?;
         merge::canonicalize_pauli_sum(&mut basis, &mut coefficients, group);
         let mut folded: Vec<(Word, f64)> = basis.into_iter().zip(coefficients).collect();
         folded.sort_by_key(|row| row.0);
         Ok(crate::cases::rows(folded.len(), folded.iter().map(|(word, sum)| (text(word), *sum, counts[word]))))
-    }
-
-    /// The first rows, and rows of zeros where there are not as many.
-    fn taken(&self, rows: usize) -> Vec<Row> {
-        let mut taken = self.rows.clone();
-        taken.resize(rows, Row { word: vec![0; WORD_BYTES], coefficient: 0.0, whole: 0 });
-        taken
     }
 
     /// The table that stands afterwards is in force.
@@ -319,20 +317,36 @@ impl Rust {
     /// The lengths are those of the words, coefficients, representatives, cosines and sines.
     fn project(&self, lengths: [usize; 5]) -> Answer {
         let group = self.group.check()?;
-        let rows = lengths[1];
         check(18, self.modes.len() != group.n_generators())?;
         check(32, !PHASES.is_multiple_of(inner::phase_modulus(group)))?;
         check(35, !tables::passes(&self.table))?;
-        check(22, lengths != sum_lengths(rows))?;
-        check(23, rows > MAX_ROWS)?;
-        let taken = self.taken(rows);
-        for (i, row) in taken.iter().enumerate() {
+        let rows = check_rows(group, lengths, &self.words, &self.wholes)?;
+        for (i, row) in rows.iter().enumerate() {
             check_row(17, i, has_bit_above(group.n_qubits(), &row.word))?;
-            check_row(33, i, !(-MAX_COEFFICIENT..=MAX_COEFFICIENT).contains(&row.whole))?;
+            check_row(33, i, !(-MAX_COEFFICIENT..=MAX_COEFFICIENT).contains(&row.coefficient))?;
         }
-        let (kept, sums) = projections::project(&self.table, group, &self.modes, &taken);
-        Ok(projected(kept, rows - kept, sums.iter().map(|(word, [cosine, sine])| (text(word), *cosine, *sine))))
+        let (kept, sums) = projections::project(&self.table, group, &self.modes, &rows);
+        Ok(projected(kept, rows.len() - kept, sums.iter().map(|(word, [cosine, sine])| (text(word), *cosine, *sine))))
     }
+}
+
+/// The rows of a sum with lists of these lengths, by the rules of the lists; zeros where there are not as many.
+fn check_rows<C: Copy + Default>(
+    group: &TranslationGroup,
+    lengths: [usize; 5],
+    words: &[u8],
+    coefficients: &[C],
+) -> Result<Vec<Row<C>>, Refusal> {
+    let rows = lengths[1];
+    let old = lengths != sum_lengths(rows);
+    check(22, old && lengths != old_sum_lengths(rows))?;
+    check(23, rows > MAX_ROWS)?;
+    check(36, old && group.n_qubits() > OLD_SITES)?;
+    let (mut words, mut coefficients) = (words.to_vec(), coefficients.to_vec());
+    words.resize(lengths[0], 0);
+    coefficients.resize(rows, C::default());
+    let words = words.chunks(if old { OLD_WORD_BYTES } else { WORD_BYTES });
+    Ok(words.zip(coefficients).map(|(word, coefficient)| Row { word: spread(word), coefficient }).collect())
 }
 
 /// How many rows have each representative, by the Rust's representatives; or the first row that makes a running sum not finite.
@@ -372,7 +386,8 @@ fn given(value: &Group) -> Option<TranslationGroup> {
     if value.sites > MAX_SITES || value.generators > MAX_GENERATORS {
         return None;
     }
-    let perms = value.targets.chunks(MAX_SITES).take(value.generators).map(|targets| targets[..value.sites].to_vec()).collect();
+    let generators = value.targets.chunks(MAX_SITES).take(value.generators);
+    let perms = generators.map(|targets| targets[..value.sites].iter().map(|&target| target.into()).collect()).collect();
     let orders = value.orders[..value.generators].to_vec();
     let group = TranslationGroup::try_from_generators(value.sites, perms, orders).ok()?;
     (group.order() <= MAX_ORDER && value_of(&group) == *value).then_some(group)
@@ -383,7 +398,9 @@ pub fn value_of(group: &TranslationGroup) -> Group {
     let mut value = Group { sites: group.n_qubits(), generators: group.n_generators(), ..Group::EMPTY };
     for g in 0..group.n_generators() {
         value.orders[g] = group.generator_order(g);
-        value.targets[MAX_SITES * g..][..group.n_qubits()].copy_from_slice(group.generator_perm(g));
+        for (place, &target) in value.targets[MAX_SITES * g..].iter_mut().zip(group.generator_perm(g)) {
+            *place = target as u16;
+        }
     }
     value
 }
@@ -446,6 +463,19 @@ pub fn read_text(text: &[u8]) -> Result<Word, Refusal> {
     Ok(Word::from(std::str::from_utf8(text).unwrap()))
 }
 
+/// Words of so many sites in full, each handed over in full or in the old form: 15 of any, then 36 of any.
+fn in_full<const N: usize>(sites: usize, words: [&[u8]; N]) -> Result<[Vec<u8>; N], Refusal> {
+    check(15, words.iter().any(|word| ![WORD_BYTES, OLD_WORD_BYTES].contains(&word.len())))?;
+    check(36, words.iter().any(|word| word.len() == OLD_WORD_BYTES && sites > OLD_SITES))?;
+    Ok(words.map(spread))
+}
+
+/// A word of either form in full: the bytes that its planes lack are 0.
+pub fn spread(word: &[u8]) -> Vec<u8> {
+    let lacking = vec![0; PLANE_BYTES - word.len() / 2];
+    word.chunks(word.len() / 2).flat_map(|plane| [plane, &lacking].concat()).collect()
+}
+
 /// The Rust's word of these bytes.
 pub fn word(sites: usize, bytes: &[u8]) -> Word {
     let mut word = Word::new(sites);
@@ -459,6 +489,11 @@ pub fn word(sites: usize, bytes: &[u8]) -> Word {
 /// The bytes of the Rust's word.
 pub fn bytes(word: &Word) -> Vec<u8> {
     [word.xbits.data, word.zbits.data].concat()
+}
+
+/// The bytes, in full, of the Rust's word of the old form.
+pub fn old_bytes(word: &OldWord) -> Vec<u8> {
+    spread(&[word.xbits.data, word.zbits.data].concat())
 }
 
 fn text(word: &Word) -> String {

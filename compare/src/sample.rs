@@ -9,6 +9,7 @@ use crate::sizes::*;
 use crate::{orbits, sectors, sums, words};
 use std::fs;
 use std::io;
+use std::ops::RangeInclusive;
 use std::path::Path;
 
 /// The same list each time.
@@ -17,7 +18,7 @@ const SEED: u64 = 1;
 type Make = fn(&mut Random, Bounds) -> Case;
 
 /// How many cases there are of each kind, and how large their groups are.
-const KINDS: [(&str, usize, fn(&mut Random) -> Bounds, Make); 8] = [
+const KINDS: [(&str, usize, fn(&mut Random) -> Bounds, Make); 9] = [
     ("words", 500, Bounds::small, words::case),
     ("groups", 500, Bounds::small, groups::case),
     ("lists", 1200, Bounds::small, groups::faulty_case),
@@ -26,9 +27,10 @@ const KINDS: [(&str, usize, fn(&mut Random) -> Bounds, Make); 8] = [
     ("sums", 300, Bounds::small, sums::case),
     ("larger orbits", 30, |_| LARGER, orbits::case),
     ("larger sectors", 30, |_| LARGER, sectors::case),
+    ("wide", 12, |_| LARGER, orbits::wide_case),
 ];
 
-const LARGER: Bounds = Bounds { sites: MAX_SITES, order: 32_768 };
+const LARGER: Bounds = Bounds { sites: OLD_SITES, order: 32_768 };
 
 /// Writes the lines to `stdin` and the Rust's answers to `stdout` in a folder.
 pub fn write(folder: &str) -> io::Result<()> {
@@ -48,14 +50,16 @@ pub fn write(folder: &str) -> io::Result<()> {
     fs::write(Path::new(folder).join("stdout"), stdout)
 }
 
-/// The lines of a case that the Rust itself answers. It has no rules 1, 2, 3 and 13, and nothing to say after a refused group.
+/// The rules that the Rust has, too.
+const OF_THE_RUST: RangeInclusive<usize> = 4..=12;
+
+/// The lines of a case that the Rust itself answers: not those that a rule of ours alone refuses, and none after a refused group.
 fn answered(case: &Case) -> Vec<(&Line, String)> {
     let mut rust = Rust::new();
     let mut answered = Vec::new();
     for line in case {
         let answer = rust.answer(line);
-        let added = ["refused 1", "refused 2", "refused 3", "refused 13"].contains(&answer.as_str());
-        if !added {
+        if refused_by(&answer).is_none_or(|rule| OF_THE_RUST.contains(&rule)) {
             answered.push((line, answer));
         }
         if rust.group().is_none() {
@@ -63,4 +67,10 @@ fn answered(case: &Case) -> Vec<(&Line, String)> {
         }
     }
     answered
+}
+
+/// The rule that an answer names, if it is a refusal.
+fn refused_by(answer: &str) -> Option<usize> {
+    let rule = answer.strip_prefix("refused ")?;
+    rule.split(|letter: char| !letter.is_ascii_digit()).next()?.parse().ok()
 }

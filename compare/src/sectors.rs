@@ -31,7 +31,8 @@ pub fn case(random: &mut Random, bounds: Bounds) -> Case {
     let (order, places) = (group.order(), group.n_generators());
     let mut case = vec![line];
     for _ in 0..random.within(1..=3) {
-        case.push(Line::Word(words::word(random, &group)));
+        let word = words::word(random, &group);
+        case.extend(words::handed_over(random, word));
         for _ in 0..2 {
             case.extend([Line::Modes(modes(random, &group)), Line::Sector { places }]);
         }

@@ -5,11 +5,17 @@ use crate::groups::{self, Bounds, Chosen};
 use crate::random::Random;
 use crate::sizes::*;
 use crate::words;
+use ppvm_pauli_sum::symmetry::group::TranslationGroup;
 
-/// A sum of up to some dozen rows, seldom of many.
+/// How many rows a sum may have for its cost: so many on few sites and one element, and the fewer the longer a walk is.
+pub fn work(group: &TranslationGroup, rows: usize) -> usize {
+    rows * OLD_SITES / group.n_qubits().max(OLD_SITES) / group.order()
+}
+
+/// A sum of up to some dozen rows, seldom of many, in either form.
 pub fn case(random: &mut Random, bounds: Bounds) -> Case {
     let Chosen { line, group } = groups::group(random, bounds);
-    let work = 200_000 / group.order();
+    let work = work(&group, 200_000);
     let rows = if random.once_in(100) { random.size(MAX_ROWS).min(work) } else { random.size(40).min(work) };
     let orbits: Vec<Vec<u8>> = (0..random.within(1..=8)).map(|_| words::word(random, &group)).collect();
     let mut case = vec![line, Line::Clear];
@@ -18,12 +24,16 @@ pub fn case(random: &mut Random, bounds: Bounds) -> Case {
         let word = if random.once_in(4) { words::word(random, &group) } else { moved(random, &orbits, &group) };
         case.extend([Line::Word(word), Line::Row(coefficient(random, small))]);
     }
-    case.push(Line::Sum);
+    if words::as_old(random, group.n_qubits()) {
+        case.extend([Line::OldRows, Line::SumOf(old_sum_lengths(rows)), Line::Clear]);
+    } else {
+        case.push(Line::Sum);
+    }
     case
 }
 
 /// A word of one of some orbits.
-pub fn moved(random: &mut Random, orbits: &[Vec<u8>], group: &ppvm_pauli_sum::symmetry::group::TranslationGroup) -> Vec<u8> {
+pub fn moved(random: &mut Random, orbits: &[Vec<u8>], group: &TranslationGroup) -> Vec<u8> {
     words::moved(&random.pick(orbits), &groups::element(group, random.below(group.order())))
 }
 

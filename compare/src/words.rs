@@ -4,6 +4,7 @@ use crate::cases::*;
 use crate::groups::{Bounds, element, site_count};
 use crate::random::Random;
 use crate::rust::{bytes, read_text};
+use crate::sizes::*;
 use ppvm_pauli_sum::symmetry::group::TranslationGroup;
 
 const LETTERS: [u8; 4] = *b"IXYZ";
@@ -65,13 +66,45 @@ pub fn word_bytes(text: &[u8]) -> Vec<u8> {
     bytes(&read_text(text).unwrap_or_else(|_| unreachable!()))
 }
 
-/// A word from text and back, its weight, and its order among others.
+/// Lengths that no word has, each beside one of the two that words have.
+pub const OTHER_LENGTHS: [usize; 4] = [OLD_WORD_BYTES - 1, OLD_WORD_BYTES + 1, WORD_BYTES - 1, WORD_BYTES + 1];
+
+/// Whether words of so many sites are to be handed over in the old form: often where they have one, seldom where they have none.
+pub fn as_old(random: &mut Random, sites: usize) -> bool {
+    random.once_in(if sites <= OLD_SITES { 4 } else { 16 })
+}
+
+/// The bytes of a text's word in a form in which it may be handed over, very seldom of another length.
+fn formed(random: &mut Random, text: &[u8]) -> Vec<u8> {
+    let mut bytes = word_bytes(text);
+    if as_old(random, text.len()) {
+        bytes = old_form(&bytes);
+    }
+    if random.once_in(64) {
+        bytes.resize(random.pick(&OTHER_LENGTHS), 0);
+    }
+    bytes
+}
+
+/// The lines that put a text's word in force, in full or in the old form, very seldom with another length.
+pub fn handed_over(random: &mut Random, text: Vec<u8>) -> Vec<Line> {
+    let sites = text.len();
+    if random.once_in(64) {
+        let mut bytes = word_bytes(&text);
+        bytes.resize(random.pick(&OTHER_LENGTHS), 0);
+        return vec![Line::Bytes { sites, bytes }];
+    }
+    let old = as_old(random, sites).then_some(Line::Old);
+    [Line::Word(text)].into_iter().chain(old).collect()
+}
+
+/// A word from text and back, its weight, and its order among others, each of them in either form.
 pub fn case(random: &mut Random, bounds: Bounds) -> Case {
     let sites = site_count(random, bounds.sites);
     let first = text(random, sites);
-    let mut case = vec![Line::Word(first.clone()), Line::Text, Line::Weight];
+    let mut case = [handed_over(random, first.clone()), vec![Line::Text, Line::Weight]].concat();
     for other in [neighbour(random, &first), neighbour(random, &first), text(random, sites)] {
-        case.push(Line::Compare(word_bytes(&other)));
+        case.push(Line::Compare(formed(random, &other)));
     }
     case
 }
