@@ -19,7 +19,7 @@ use Rattle.permutation.specs.Limits.{maxGenerators, targetPlaces}
 use Rattle.group.specs.declared.Group.{Group}
 use Rattle.group.specs.Value.{generatorsOf, isGroup, AcceptedGroup}
 use Rattle.group.specs.Calls.{valueChecks}
-use Rattle.group.proofs.Accepted.{value-fine, value-passes}
+use Rattle.group.proofs.Accepted.{value-fine}
 use Rattle.orbit.specs.declared.Walk.{Walk}
 use Rattle.orbit.specs.Calls.{walkIn, isWalk, notAWalk, walkChecks}
 
@@ -89,9 +89,6 @@ module _ (w : Walk) (ok : verdict (walkChecks w) ≡ answer tt) where
       and-eq-true-iff (clearFrom (w .group .sites) (take planeLength (w .word))) (clearFrom (w .group .sites) (drop planeLength (w .word))) .0 word
       in
       (group, x, z, last)
-
-  pub walk-value : verdict (valueChecks (w .group)) ≡ answer tt
-  walk-value = value-passes (w .group) few (parts .0)
 
   pub walk-group : length (w .group .targets) ≡ targetPlaces → length (w .group .orders) ≡ maxGenerators → AcceptedGroup (w .group)
   walk-group targets orders = record { few = few; isOne = parts .0; targets = targets; orders = orders }

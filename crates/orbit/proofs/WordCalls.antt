@@ -2,28 +2,24 @@
 -- What carries it: the first rule that is broken decides, and a pass breaks none.
 use Prim.Native.Nat.{ℕ, _<_, _≤_}
 use mathlib.Core.Path.{_≡_, refl, sym, ap, subst, _∙_}
-use mathlib.Core.Logic.{inl, inr}
-use mathlib.Core.Bool.{Bool, true, false, not, cond}
+use mathlib.Core.Bool.{true, false, not}
 use mathlib.Core.List.{List, [], _∷_}
-use native.Mathlib.Decide.{ℕ-discrete}
 use lib.Dec.{ltb, eqb}
 use lib.ListN.{length}
 use borrow.Author.Tests.{lt-ltb, le-ltb, ltb-false, eq-eqb, ne-eqb, eqb-true, not-false}
 use Rattle.outcome.specs.declared.Refusal.the-variants as Refusal
-use Rattle.outcome.specs.declared.Verdict.{Verdict}
-use Rattle.outcome.specs.declared.Verdict.the-variants as Verdict
-use Rattle.outcome.specs.Outcome.{answer, refusalOf, outcomeOfVerdict, verdict, Check, rule}
-use Rattle.outcome.proofs.Outcomes.{verdict-fine, told-passes}
-use Rattle.pauli_word.specs.Limits.{maxSites, wordLength, oldLength}
+use Rattle.outcome.specs.Outcome.{answer, refusalOf, verdict, Check}
+use Rattle.outcome.proofs.Outcomes.{verdict-fine}
+use Rattle.pauli_word.specs.Limits.{maxSites}
 use Rattle.pauli_word.specs.Bytes.{Bytes, AcceptedWord, EitherLength, EitherWord, inFull}
 use Rattle.pauli_word.specs.Calls.{siteCount, wordSize, oldSize, bitAbove, clearAbove, eitherLength, pastOld}
-use Rattle.pauli_word.proofs.Forms.{either-length, either-accepted, full-other, full-full, full-length}
-use Rattle.pauli_word.proofs.Checks.{either-true, either-told, past-full, accepted-by, accepted-fits, accepted-clear}
+use Rattle.pauli_word.proofs.Forms.{either-length, either-accepted}
+use Rattle.pauli_word.proofs.Outcomes.{forms-full}
+use Rattle.pauli_word.proofs.Checks.{either-true, either-told, accepted-by, accepted-fits, accepted-clear}
 use Rattle.permutation.specs.Limits.{maxGenerators, targetPlaces}
 use Rattle.group.specs.declared.Group.{Group}
 use Rattle.group.specs.Value.{isGroup, notAGroup, AcceptedGroup}
-use Rattle.group.specs.Calls.{valueChecks}
-use Rattle.group.proofs.Accepted.{accepted-by as group-accepted-by, value-passes}
+use Rattle.group.proofs.Accepted.{accepted-by as group-accepted-by}
 use Rattle.orbit.specs.Calls.{otherSites, wordCallChecks}
 
 -- ---- 1, 14, 15, 36, 16, 17
@@ -96,9 +92,6 @@ module _ (g : Group) (n : ℕ) (bytes : List ℕ) (pass : verdict (wordCallCheck
   sixteen : (not (eqb n (g .sites)) ≡ false) × (verdict after16 ≡ answer tt)
   sixteen = verdict-fine (otherSites g n) after16 (thirty-six .1)
 
-  pub call-value : verdict (valueChecks g) ≡ answer tt
-  call-value = value-passes g (ltb-false maxSites (g .sites) (one .0)) (not-false (isGroup g) (fourteen .0))
-
   pub call-group : length (g .targets) ≡ targetPlaces → length (g .orders) ≡ maxGenerators → AcceptedGroup g
   call-group targets orders = group-accepted-by g targets orders (one .0) (fourteen .0)
 
@@ -129,13 +122,7 @@ word-call-passes g ok bytes word =
 
 pub checks-full :
     (g : Group) (n : ℕ) (bytes : List ℕ) → pastOld n (length bytes) ≡ false → wordCallChecks g n (inFull bytes) ≡ wordCallChecks g n bytes
-checks-full g n bytes fits = go (ℕ-discrete (length bytes) oldLength)
-  where
-    go : Dec (length bytes ≡ oldLength) → wordCallChecks g n (inFull bytes) ≡ wordCallChecks g n bytes
-    go (yes e) =
-        let long = full-length bytes (inr e) in
-        rw (full-full bytes, either-true (length (inFull bytes)) (inl long), past-full n (length (inFull bytes)) long, either-true (length bytes) (inr e), fits)
-    go (no d) = ap (wordCallChecks g n) (full-other bytes d)
+checks-full g n bytes fits = let same = forms-full n bytes fits in rw (same .0, same .1, same .2)
 
 -- ---- a word that passes, in full: it is accepted, and passes with the group's own site count
 

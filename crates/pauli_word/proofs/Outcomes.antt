@@ -21,8 +21,8 @@ module _ (n : ℕ) (bytes : List ℕ) where
   letters-full = ap (lettersIn n) (full-full bytes)
 
   module _ (fits : pastOld n (length bytes) ≡ false) where
-    -- 15 and 36 of the word in full, and 17
-    forms-full : (wordSize (inFull bytes) ≡ wordSize bytes) × (oldSize n (inFull bytes) ≡ oldSize n bytes) × (bitAbove n (inFull bytes) ≡ bitAbove n bytes)
+    -- 15, 36 and 17 of the word in full
+    pub forms-full : (wordSize (inFull bytes) ≡ wordSize bytes) × (oldSize n (inFull bytes) ≡ oldSize n bytes) × (bitAbove n (inFull bytes) ≡ bitAbove n bytes)
     forms-full = go (ℕ-discrete (length bytes) oldLength)
       where
         go : Dec (length bytes ≡ oldLength)

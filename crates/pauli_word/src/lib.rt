@@ -124,8 +124,8 @@ pub fn weight(n: usize, word: &[u8]) -> Number
     }
 }
 
-// How word a stands to word b, both of n sites, each in either form: at the first bit that differs, reading the X plane from site 0 and then the Z plane, the lesser
-// has 0.
+// How word a stands to word b, both of n sites, each in either form: at the first bit that differs, reading the X plane from site 0 and then the
+// Z plane, the lesser has 0.
 pub fn compare(n: usize, a: &[u8], b: &[u8]) -> Comparison
     ensures answer { λ r. ⌜ outcomeOfComparison r ≡ compareOutcome n (now (a .entry)) (now (b .entry)) ⌝ }
 {
