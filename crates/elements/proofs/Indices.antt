@@ -1,5 +1,5 @@
--- The loops over the generators of tables, one generator after the other: the group order, the phase modulus, the digits of an index and its
--- inverse, each by what is left from generator g on.
+-- The loops over the generators of tables, one generator after the other: the group order, the phase modulus, the digits of an index, its
+-- inverse and the sum of two, each by what is left from generator g on.
 use Prim.Native.Nat.{ℕ, _+_, _-_, _*_, _/_, _%_, _≤_, _<_, _∣_}
 use mathlib.Core.Path.{_≡_, sym, _∙_}
 use mathlib.Core.Logic.{inl, inr}
@@ -12,11 +12,11 @@ use lib.Seq.{take-suc-set, drop-set-lt}
 use Rattle.action.specs.Arithmetic.{gcd, lcm, lcmAll}
 use Rattle.action.specs.Lists.{Member}
 use Rattle.action.specs.Permutation.{Generator}
-use Rattle.action.specs.Index.{orderOf, digits, index, inverseDigits, inverse}
+use Rattle.action.specs.Index.{orderOf, digits, index, addDigits, add, inverseDigits, inverse}
 use Rattle.action.specs.Sector.{modulus}
 use Rattle.action.proofs.Arithmetic.{gcd-left, lcmAll-divides}
 use Rattle.action.proofs.Lists.{of-member-map}
-use Rattle.action.proofs.Index.{valid-positive, order-of-positive, inverse-below}
+use Rattle.action.proofs.Index.{valid-positive, order-of-positive, add-below, inverse-below}
 use Rattle.permutation.specs.Limits.{maxOrder}
 use Rattle.elements.specs.HeldGroup.{generatorsIn, Tables}
 use Rattle.elements.proofs.TableRows.{member-drop, rest-at, rest-end, rest-positive, order-positive-at}
@@ -111,6 +111,28 @@ module _ {k n : ℕ} {targets orders : List ℕ} (t : Tables k n targets orders)
       → out ≡ inverse (generatorsIn k n targets orders) i
   unfolding inverse digits inverseDigits index
   inverse-end out place g rest i h e = omega (arith, rw (rest-end t g h) at e, mul-zero place)
+
+  -- what is written of a sum, and the place times that of what is left: one digit more
+  pub sum-next : (out place g a b i j : ℕ) → g < k
+      → out + place * add (drop g (generatorsIn k n targets orders)) a b ≡ add (generatorsIn k n targets orders) i j
+      → out + (a % getD orders g 0 + b % getD orders g 0) % getD orders g 0 * place
+      + place * getD orders g 0 * add (drop (g + 1) (generatorsIn k n targets orders)) (a / getD orders g 0) (b / getD orders g 0)
+      ≡ add (generatorsIn k n targets orders) i j
+  unfolding add digits addDigits index
+  sum-next out place g a b i j h e =
+      let o : ℕ = getD orders g 0 in
+      let d : ℕ = (a % o + b % o) % o in
+      let r : ℕ = add (drop (g + 1) (generatorsIn k n targets orders)) (a / o) (b / o) in
+      omega (arith, rw (rest-at t g h) at e, mul-add place d (o * r), mul-comm d place, mul-assoc place o r)
+
+  pub sum-small : (out x i j : ℕ) → out + x ≡ add (generatorsIn k n targets orders) i j → out ≤ maxOrder
+  sum-small out x i j e = omega (arith, add-below (generatorsIn k n targets orders) (valid-positive (t .valid)) i j, t .small)
+
+  pub sum-end : (out place g a b i j : ℕ) → k ≤ g
+      → out + place * add (drop g (generatorsIn k n targets orders)) a b ≡ add (generatorsIn k n targets orders) i j
+      → out ≡ add (generatorsIn k n targets orders) i j
+  unfolding add digits addDigits index
+  sum-end out place g a b i j h e = omega (arith, rw (rest-end t g h) at e, mul-zero place)
 
   -- the counter with one digit more, and the digits that are left
   pub counter-next : (g rest : ℕ) (counter : List ℕ) → g < k → k ≤ length counter

@@ -3,7 +3,7 @@ ghost use mathlib.Core.Path.{_≡_};
 ghost use mathlib.Core.List.{_++_};
 ghost use Prim.Native.Nat.{_≤_, _<_};
 ghost use lib.ListN.{length, drop};
-ghost use Rattle.action.specs.Index.{orderOf, digits, inverse};
+ghost use Rattle.action.specs.Index.{orderOf, digits, add as addOf, inverse};
 ghost use Rattle.action.specs.Sector.{modulus};
 ghost use Rattle.elements.specs.HeldGroup.{generatorsIn, Tables};
 
@@ -79,6 +79,34 @@ pub fn invert(
         out = out + (o - rest % o) % o * place;
         place = place * o;
         rest = rest / o;
+        g += 1;
+    }
+    out
+}
+
+// The sum of two indices: digit by digit (c + d) mod o.
+pub fn add(
+    targets: &[u16],
+    orders: &[u32],
+    generators: usize,
+    sites: usize,
+    i: usize,
+    j: usize,
+) -> usize
+    requires { ⌜ Tables generators sites (now targets) (now orders) ⌝ }
+    ensures { λ r. ⌜ r ≡ addOf (generatorsIn generators sites (now (targets .entry)) (now (orders .entry))) i j ⌝ }
+{
+    let mut a = i;
+    let mut b = j;
+    let mut place: usize = 1;
+    let mut out: usize = 0;
+    let mut g = 0;
+    while g < generators {
+        let o = orders[g] as usize;
+        out = out + (a % o + b % o) % o * place;
+        place = place * o;
+        a = a / o;
+        b = b / o;
         g += 1;
     }
     out

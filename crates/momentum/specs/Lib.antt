@@ -1,4 +1,5 @@
 -- What the contracts of this crate say, in the order to read it.
 pub mod Calls
+pub mod Words
 pub mod Counts
 pub mod Parts

@@ -26,3 +26,8 @@ placementOf (dropped i) = Placement.Dropped i
 abbrev pub indexIn : Placement → ℕ
 indexIn (Placement.Kept index size) = index
 indexIn (Placement.Dropped index) = index
+
+-- the orbit size: 0 where the word is dropped
+abbrev pub sizeIn : Placement → ℕ
+sizeIn (Placement.Kept index size) = size
+sizeIn (Placement.Dropped index) = 0

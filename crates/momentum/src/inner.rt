@@ -6,7 +6,7 @@ ghost use Rattle.action.specs.Index.{digits};
 ghost use Rattle.action.specs.Sector.{numerator};
 ghost use Rattle.elements.specs.HeldGroup.{generatorsIn, Tables};
 ghost use Rattle.momentum.specs.Calls.{rowWord, decision};
-ghost use Rattle.momentum.specs.Parts.{placementOf, indexIn};
+ghost use Rattle.momentum.specs.Parts.{placementOf, indexIn, sizeIn};
 use crate::phase;
 use crate::stabilizer;
 use pauli_word::WORD_BYTES;
@@ -27,6 +27,16 @@ impl Placement {
         match self {
             Placement::Kept(index, _) => index,
             Placement::Dropped(index) => index,
+        }
+    }
+
+    // The orbit size; 0 where the word is dropped.
+    pub fn size(self) -> usize
+        ensures { λ r. ⌜ r ≡ sizeIn self ⌝ }
+    {
+        match self {
+            Placement::Kept(_, size) => size,
+            Placement::Dropped(_) => 0,
         }
     }
 }

@@ -5,9 +5,11 @@ ghost use Rattle.outcome.specs.Outcome.{onAnswer, orElse, done, itself, outcome
 ghost use Rattle.group.specs.Value.{groupIn, generatorsOf};
 ghost use Rattle.orbit.specs.Calls.{noWord};
 ghost use Rattle.momentum.specs.Calls.{numeratorOutcome, tableOutcome, sectorOutcome, outcomeOfSector, sizeOf, rowWord, rowCounter};
+ghost use Rattle.momentum.specs.Words.{sectorWordsOutcome, sectorWords, sectorIndices, sectorSizes};
 use crate::InSector;
 use crate::Sector;
 use crate::calls;
+use crate::rows;
 use outcome::Number;
 use outcome::Verdict;
 use permutation::MAX_GENERATORS;
@@ -70,6 +72,55 @@ pub fn canonicalize_in_sector<'a>(
         Verdict::Accepted => {
             let full = pauli_word::inner::in_full(word);
             calls::sector_of(targets, orders, generators, sites, &full, modes, counter)
+        }
+    }
+}
+
+// Whether modes keep the words of rows.
+pub fn sector_words<'a>(
+    targets: &'a [u16; TARGET_PLACES],
+    orders: &'a [u32; MAX_GENERATORS],
+    generators: usize,
+    sites: usize,
+    modes: &[i32],
+    words: &[u8],
+    representatives: &mut [u8],
+    indices: &mut [usize],
+    sizes: &mut [usize],
+) -> Verdict
+    ensures answer { λ r. ⌜ outcomeOfVerdict r ≡ onAnswer done (sectorWordsOutcome (groupIn sites generators (now (orders .entry)) (now (targets .entry))) (now (modes .entry)) (now (words .entry)) (length (now (indices .entry))) (length (now (representatives .entry))) (length (now (sizes .entry)))) ⌝ }
+    ensures representatives { λ _. ⌜ now (representatives .exit) ≡ orElse sectorWords (now (representatives .entry)) (sectorWordsOutcome (groupIn sites generators (now (orders .entry)) (now (targets .entry))) (now (modes .entry)) (now (words .entry)) (length (now (indices .entry))) (length (now (representatives .entry))) (length (now (sizes .entry)))) ⌝ }
+    ensures indices { λ _. ⌜ now (indices .exit) ≡ orElse sectorIndices (now (indices .entry)) (sectorWordsOutcome (groupIn sites generators (now (orders .entry)) (now (targets .entry))) (now (modes .entry)) (now (words .entry)) (length (now (indices .entry))) (length (now (representatives .entry))) (length (now (sizes .entry)))) ⌝ }
+    ensures sizes { λ _. ⌜ now (sizes .exit) ≡ orElse sectorSizes (now (sizes .entry)) (sectorWordsOutcome (groupIn sites generators (now (orders .entry)) (now (targets .entry))) (now (modes .entry)) (now (words .entry)) (length (now (indices .entry))) (length (now (representatives .entry))) (length (now (sizes .entry)))) ⌝ }
+{
+    let checked = rows::rows_checked(
+        targets,
+        orders,
+        generators,
+        sites,
+        modes,
+        words,
+        indices.len(),
+        representatives.len(),
+        sizes.len(),
+    );
+    match checked {
+        Verdict::Refused(why) => Verdict::Refused(why),
+        Verdict::Accepted => {
+            let size = row_lists::checks::row_size(words.len(), indices.len());
+            rows::place_rows(
+                targets,
+                orders,
+                generators,
+                sites,
+                modes,
+                words,
+                size,
+                representatives,
+                indices,
+                sizes,
+            );
+            Verdict::Accepted
         }
     }
 }

@@ -5,8 +5,10 @@
 // a refusal passes for nothing.
 mod calls;
 pub mod inner;
+mod leading;
 pub mod lent;
 mod phase;
+mod rows;
 mod stabilizer;
 
 ghost use mathlib.Core.Path.{_≡_};
@@ -14,6 +16,7 @@ ghost use lib.ListN.{length};
 ghost use Rattle.outcome.specs.Outcome.{onAnswer, orElse, done, itself, outcomeOfNumber, outcomeOfVerdict};
 ghost use Rattle.orbit.specs.Calls.{noWord};
 ghost use Rattle.momentum.specs.Calls.{numeratorOutcome, tableOutcome, sectorOutcome, outcomeOfSector, sizeOf, rowWord, rowCounter};
+ghost use Rattle.momentum.specs.Words.{sectorWordsOutcome, sectorWords, sectorIndices, sectorSizes};
 ghost use Rattle.group.specs.Value.{generatorsOf};
 use group::Group;
 use outcome::Number;
@@ -90,5 +93,35 @@ pub fn canonicalize_in_sector(
         word,
         modes,
         counter,
+    )
+}
+
+// Whether modes keep many words, with the group checked once. Row i of `words`, which all have one form, is decided as `canonicalize_in_sector` decides
+// it. A kept row has the least word of its orbit, in full, in row i of `representatives`, the index that leads from there back to the word in place i
+// of `indices`, and the orbit size in place i of `sizes`; a dropped one has zeros for a word, the index that drops it, and size 0. `indices` has as many
+// places as there are rows. Every row is tested before anything is written.
+pub fn sector_words(
+    group: Group,
+    modes: &[i32],
+    words: &[u8],
+    representatives: &mut [u8],
+    indices: &mut [usize],
+    sizes: &mut [usize],
+) -> Verdict
+    ensures answer { λ r. ⌜ outcomeOfVerdict r ≡ onAnswer done (sectorWordsOutcome group (now (modes .entry)) (now (words .entry)) (length (now (indices .entry))) (length (now (representatives .entry))) (length (now (sizes .entry)))) ⌝ }
+    ensures representatives { λ _. ⌜ now (representatives .exit) ≡ orElse sectorWords (now (representatives .entry)) (sectorWordsOutcome group (now (modes .entry)) (now (words .entry)) (length (now (indices .entry))) (length (now (representatives .entry))) (length (now (sizes .entry)))) ⌝ }
+    ensures indices { λ _. ⌜ now (indices .exit) ≡ orElse sectorIndices (now (indices .entry)) (sectorWordsOutcome group (now (modes .entry)) (now (words .entry)) (length (now (indices .entry))) (length (now (representatives .entry))) (length (now (sizes .entry)))) ⌝ }
+    ensures sizes { λ _. ⌜ now (sizes .exit) ≡ orElse sectorSizes (now (sizes .entry)) (sectorWordsOutcome group (now (modes .entry)) (now (words .entry)) (length (now (indices .entry))) (length (now (representatives .entry))) (length (now (sizes .entry)))) ⌝ }
+{
+    lent::sector_words(
+        &group.targets,
+        &group.orders,
+        group.generators,
+        group.sites,
+        modes,
+        words,
+        representatives,
+        indices,
+        sizes,
     )
 }

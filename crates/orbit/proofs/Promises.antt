@@ -1,14 +1,14 @@
 -- What is promised of the calls by their outcomes: each statement is followed by the law that shows it.
 --
--- 1 What stands beside a refusal, 2 Acceptance, 3 The least word and its index, 4 The walk, 5 Either form. A word is accepted in either form: in full,
--- or of the old form with no more sites than that form has (`EitherWord`); wordIn has its letters.
+-- 1 What stands beside a refusal, 2 Acceptance, 3 The least word and its index, 4 The walk, 5 Either form, 6 Many words. A word is accepted in either
+-- form: in full, or of the old form with no more sites than that form has (`EitherWord`); wordIn has its letters.
 use Prim.Native.Nat.{ℕ, suc, _≤_, _<_, min}
 use mathlib.Core.Path.{_≡_, sym, ap, _∙_}
 use mathlib.Core.Logic.{inl}
 use mathlib.Core.Bool.{true, false}
-use mathlib.Core.List.{List, map}
+use mathlib.Core.List.{List, [], map}
 use native.Mathlib.Omega.{arith}
-use lib.ListN.{length}
+use lib.ListN.{length, getD}
 use Rattle.outcome.specs.Outcome.{answer, verdict}
 use Rattle.outcome.proofs.Outcomes.{call-answers}
 use Rattle.pauli_word.specs.Limits.{wordLength}
@@ -26,12 +26,15 @@ use Rattle.group.specs.declared.Group.{Group}
 use Rattle.group.specs.Value.{generatorsOf, AcceptedGroup}
 use Rattle.group.proofs.Promises.{no-group}
 use Rattle.group.proofs.MadeGroups.{held-valid}
+use Rattle.row_lists.specs.Rows.{rowBy, rowSize}
 use Rattle.orbit.specs.declared.Walk.{Walk}
 use Rattle.orbit.specs.Calls.{wordCallChecks, canonicalizeOutcome, withIndexOutcome, withShiftOutcome, orbitListOutcome, isWalk, noWalk, beginOutcome, entry, finished, nextOutcome, entryWord}
+use Rattle.orbit.specs.Words.{wordsOutcome}
 use Rattle.orbit.specs.Walked.{walked, wordsGiven, Reached, CanonicalAnswer}
 use Rattle.orbit.proofs.WordCalls.{word-call-passes}
 use Rattle.orbit.proofs.Outcomes as Outcomes
 use Rattle.orbit.proofs.Walked as Walked
+use Rattle.orbit.proofs.RowCalls as Rows
 
 -- ---- 1 What stands beside a refusal: no call takes it for a walk
 
@@ -139,3 +142,13 @@ module _ (g : Group) (n : ℕ) (bytes : List ℕ) (fits : pastOld n (length byte
 
   pub begin-either : beginOutcome g n (inFull bytes) ≡ beginOutcome g n bytes
   begin-either = Outcomes.begin-full g n bytes fits
+
+-- ---- 6 Many words: where the call on k rows of words answers, it has an answer for each row, and that of row i is what canonicalize_with_index
+-- answers of row i as it is handed, in either form
+
+module _ (g : Group) (words : List ℕ) (k representatives : ℕ) (rows : List (Word × ℕ)) (answered : wordsOutcome g words k representatives ≡ answer rows) where
+  pub words-all : length rows ≡ k
+  words-all = Rows.rows-all g words k representatives rows answered
+
+  pub words-alone : (i : ℕ) → i < k → withIndexOutcome g (g .sites) (rowBy (rowSize (length words) k) words i) ≡ answer (getD rows i ([], 0))
+  words-alone = Rows.row-alone g words k representatives rows answered

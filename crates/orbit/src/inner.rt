@@ -9,8 +9,11 @@ ghost use Rattle.orbit.specs.Calls.{wordCallChecks};
 use elements::walk::LeastWord;
 use outcome::Refusal;
 use outcome::Verdict;
+use packed::PLANE_WORDS;
+use pauli_word::WORD_BYTES;
 use permutation::MAX_GENERATORS;
 use permutation::TARGET_PLACES;
+use rotation::planes::MASK_WORDS;
 
 // The checks of a group value and a word: 1, 14, 15, 36, 16, 17.
 pub fn word_call_checked<'a>(
@@ -62,8 +65,38 @@ pub fn least_of(
     ensures index { λ r. ⌜ r .index ≡ indexBack (generatorsIn generators sites (now (targets .entry)) (now (orders .entry))) (lettersIn sites (now (word .entry))) ⌝ }
 {
     let order = elements::index::order(targets, orders, generators, sites);
-    let found = paths::least::least(targets, orders, generators, sites, order, word);
-    let index = elements::index::invert(targets, orders, generators, sites, found.index);
-    let least = found.word;
-    LeastWord { word: least, index }
+    let mut strides = [0usize; MAX_GENERATORS];
+    let mut rests = [0usize; MAX_GENERATORS];
+    let mut masks = [0u64; MASK_WORDS];
+    let path = paths::plan::find_path(
+        targets,
+        orders,
+        generators,
+        sites,
+        order,
+        &mut strides,
+        &mut rests,
+        &mut masks,
+    );
+    let room = path.words();
+    let mut left = [0u64; PLANE_WORDS];
+    let mut least = [0u8; WORD_BYTES];
+    let led = paths::least::least_into(
+        path,
+        targets,
+        orders,
+        generators,
+        sites,
+        &strides,
+        &rests,
+        &masks,
+        order,
+        word,
+        &mut left[0..room],
+        &mut least,
+    );
+    LeastWord {
+        word: least,
+        index: led.index,
+    }
 }

@@ -5,12 +5,14 @@ ghost use Rattle.outcome.specs.Outcome.{outcomeOfVerdict, outcomeOfNumber, onAn
 ghost use Rattle.pauli_word.specs.Bytes.{bytesOf};
 ghost use Rattle.elements.specs.HeldGroup.{encodeAll};
 ghost use Rattle.group.specs.Value.{groupIn};
+ghost use Rattle.orbit.specs.Words.{wordsOutcome, wordsOf, indicesOf};
 ghost use Rattle.orbit.specs.Calls.{canonicalizeOutcome, withIndexOutcome, withShiftOutcome, orbitListOutcome, noWord, wordOf, indexOf, shiftOf, beginOutcome, noWalk, walkIn, outcomeOfStep, nextOutcome, entryWord, afterEntry};
 use crate::Canonical;
 use crate::CanonicalIndex;
 use crate::Step;
 use crate::calls;
 use crate::inner;
+use crate::rows;
 use crate::steps;
 use crate::steps::Moved;
 use outcome::Number;
@@ -105,6 +107,48 @@ pub fn canonicalize_with_shift<'a>(
         Verdict::Accepted => {
             let full = pauli_word::inner::in_full(word);
             calls::shift_of(targets, orders, generators, sites, &full, counter)
+        }
+    }
+}
+
+// The least word of each row's orbit, and the index that leads back.
+pub fn canonicalize_words<'a>(
+    targets: &'a [u16; TARGET_PLACES],
+    orders: &'a [u32; MAX_GENERATORS],
+    generators: usize,
+    sites: usize,
+    words: &[u8],
+    representatives: &mut [u8],
+    indices: &mut [usize],
+) -> Verdict
+    ensures answer { λ r. ⌜ outcomeOfVerdict r ≡ onAnswer done (wordsOutcome (groupIn sites generators (now (orders .entry)) (now (targets .entry))) (now (words .entry)) (length (now (indices .entry))) (length (now (representatives .entry)))) ⌝ }
+    ensures representatives { λ _. ⌜ now (representatives .exit) ≡ orElse wordsOf (now (representatives .entry)) (wordsOutcome (groupIn sites generators (now (orders .entry)) (now (targets .entry))) (now (words .entry)) (length (now (indices .entry))) (length (now (representatives .entry)))) ⌝ }
+    ensures indices { λ _. ⌜ now (indices .exit) ≡ orElse indicesOf (now (indices .entry)) (wordsOutcome (groupIn sites generators (now (orders .entry)) (now (targets .entry))) (now (words .entry)) (length (now (indices .entry))) (length (now (representatives .entry)))) ⌝ }
+{
+    let checked = rows::rows_checked(
+        targets,
+        orders,
+        generators,
+        sites,
+        words,
+        indices.len(),
+        representatives.len(),
+    );
+    match checked {
+        Verdict::Refused(why) => Verdict::Refused(why),
+        Verdict::Accepted => {
+            let size = row_lists::checks::row_size(words.len(), indices.len());
+            rows::least_rows(
+                targets,
+                orders,
+                generators,
+                sites,
+                words,
+                size,
+                representatives,
+                indices,
+            );
+            Verdict::Accepted
         }
     }
 }

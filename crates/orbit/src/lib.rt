@@ -5,6 +5,7 @@
 mod calls;
 pub mod inner;
 pub mod lent;
+pub mod rows;
 pub mod steps;
 
 ghost use mathlib.Core.Path.{_≡_};
@@ -12,6 +13,7 @@ ghost use lib.ListN.{length};
 ghost use Rattle.outcome.specs.Outcome.{outcomeOfVerdict, outcomeOfNumber, onAnswer, done, itself, orElse};
 ghost use Rattle.pauli_word.specs.Bytes.{bytesOf};
 ghost use Rattle.elements.specs.HeldGroup.{encodeAll};
+ghost use Rattle.orbit.specs.Words.{wordsOutcome, wordsOf, indicesOf};
 ghost use Rattle.orbit.specs.Calls.{outcomeOfStep, canonicalizeOutcome, withIndexOutcome, withShiftOutcome, orbitListOutcome, noWord, beginOutcome, noWalk, nextOutcome, entryWord, afterEntry, wordOf, indexOf, shiftOf};
 use group::Group;
 use outcome::Number;
@@ -106,6 +108,30 @@ pub fn canonicalize_with_shift(
         n,
         word,
         counter,
+    )
+}
+
+// The least words of many words' orbits, and the indices that lead back, with the group checked once. Row i of `words`, which all have one form, is
+// answered as `canonicalize_with_index` answers it: the least word, in full, in row i of `representatives`, and the index in place i of `indices`,
+// which has as many places as there are rows. Every row is tested before anything is written.
+pub fn canonicalize_words(
+    group: Group,
+    words: &[u8],
+    representatives: &mut [u8],
+    indices: &mut [usize],
+) -> Verdict
+    ensures answer { λ r. ⌜ outcomeOfVerdict r ≡ onAnswer done (wordsOutcome group (now (words .entry)) (length (now (indices .entry))) (length (now (representatives .entry)))) ⌝ }
+    ensures representatives { λ _. ⌜ now (representatives .exit) ≡ orElse wordsOf (now (representatives .entry)) (wordsOutcome group (now (words .entry)) (length (now (indices .entry))) (length (now (representatives .entry)))) ⌝ }
+    ensures indices { λ _. ⌜ now (indices .exit) ≡ orElse indicesOf (now (indices .entry)) (wordsOutcome group (now (words .entry)) (length (now (indices .entry))) (length (now (representatives .entry)))) ⌝ }
+{
+    lent::canonicalize_words(
+        &group.targets,
+        &group.orders,
+        group.generators,
+        group.sites,
+        words,
+        representatives,
+        indices,
     )
 }
 

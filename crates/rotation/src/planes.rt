@@ -39,7 +39,7 @@ pub fn pack_planes(word: &[u8], sites: usize, x: &mut [u64], z: &mut [u64])
 }
 
 // Stores the bytes of the word that an X plane and a Z plane hold.
-fn put_planes(x: &[u64], z: &[u64], sites: usize, word: &mut [u8])
+pub fn put_planes(x: &[u64], z: &[u64], sites: usize, word: &mut [u8])
     requires { ⌜ Planes sites (length (now x)) (now x) (now z) ⌝ }
     requires { ⌜ length (now word) ≡ wordLength ⌝ }
     ensures { λ _. ⌜ now (word .exit) ≡ bytesOf (lettersAt sites (now (x .entry)) (now (z .entry))) ⌝ }

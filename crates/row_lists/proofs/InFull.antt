@@ -2,7 +2,7 @@
 use Prim.Native.Nat.{ℕ, zero, suc, _+_, _-_, _*_, _≤_, _<_}
 use mathlib.Core.Path.{_≡_, refl, sym, ap, ap₂, subst, _∙_}
 use mathlib.Core.Logic.{_⊎_, inl, inr}
-use mathlib.Core.Bool.{Bool, true, false, cond}
+use mathlib.Core.Bool.{Bool, true, false, cond, and-eq-true-iff}
 use mathlib.Core.List.{List, [], _∷_, _++_}
 use native.Mathlib.Decide.{ℕ-discrete}
 use native.Mathlib.Nat.{mul-suc, mul-le-mul-left, le-of-suc-le-suc, not-suc-le-zero}
@@ -11,13 +11,14 @@ use lib.Dec.{eqb}
 use lib.ListN.{length, take, drop, length-append, length-drop, take-append-drop}
 use lib.Seq.{length-take-le, take-at, drop-at}
 use borrow.Author.Tests.{eq-eqb, ne-eqb}
-use Rattle.pauli_word.specs.Limits.{planeLength, wordLength, oldPlaneLength, oldLength}
-use Rattle.pauli_word.specs.Bytes.{Bytes, AcceptedWord, EitherLength, filledUp, spread, inFull}
+use Rattle.pauli_word.specs.Limits.{maxSites, planeLength, wordLength, oldPlaneLength, oldLength}
+use Rattle.pauli_word.specs.Bytes.{clearFrom, Bytes, AcceptedWord, EitherLength, filledUp, spread, inFull}
+use Rattle.pauli_word.specs.Calls.{clearAbove}
 use Rattle.pauli_word.proofs.Words.{bytes-append, bytes-take, bytes-drop}
 use Rattle.pauli_word.proofs.Forms.{filled-bytes, full-same, full-length}
-use Rattle.row_lists.specs.Rows.{rowBy, rowSize, inFullBy, rowAt}
+use Rattle.row_lists.specs.Rows.{maxRows, rowBy, rowSize, inFullBy, rowAt}
 use Rattle.row_lists.specs.Checks.{AcceptedRows}
-use Rattle.row_lists.proofs.Rows.{first-by, part-by, behind-by, length-by, row-first, row-behind}
+use Rattle.row_lists.proofs.Rows.{first-by, part-by, behind-by, length-by, row-first, row-behind, row-bytes}
 
 -- ---- the bytes of a row
 
@@ -129,10 +130,35 @@ module _ (size : ℕ) where
         ∙ full-row k (drop size words) (behind-long k words long) i (le-of-suc-le-suc h)
         ∙ ap inFull (behind-by size words i)
 
+    -- rows are accepted of which no word has a bit above
+    pub clear-accepted : {n k : ℕ} (words : List ℕ) → length words ≡ size * k → n ≤ maxSites → Bytes words → k ≤ maxRows
+        → ((i : ℕ) → i < k → clearAbove n (inFull (rowBy size words i)) ≡ true) → AcceptedRows n (inFullBy size k words) k
+    clear-accepted {n} {k} words long short small few clear = record { few = few; long = fullLong; word = word }
+      where
+        full : List ℕ
+        full = inFullBy size k words
+
+        fullLong : length full ≡ wordLength * k
+        fullLong = full-long k words long
+
+        word : (i : ℕ) → i < k → AcceptedWord n (rowAt full i)
+        word i h =
+            let bytes = row-bytes full i (full-bytes k words small) (omega (arith, fullLong)) in
+            let planes =
+            and-eq-true-iff (clearFrom n (take planeLength (rowAt full i))) (clearFrom n (drop planeLength (rowAt full i))) .0
+            (ap (clearAbove n) (full-row k words long i h) ∙ clear i h)
+            in
+            record { sites = short; long = bytes .0; small = bytes .1; xClear = planes .0; zClear = planes .1 }
+
     -- where the rows are accepted, so is the word of row i in full
     pub row-accepted : {n k : ℕ} {bytes : List ℕ} (words : List ℕ) → length words ≡ size * k → AcceptedRows n (inFullBy size k words) k → (i : ℕ) → i < k
         → bytes ≡ inFull (rowBy size words i) → AcceptedWord n bytes
     row-accepted {n} {k} words long ok i h e = subst (AcceptedWord n) (full-row k words long i h ∙ sym e) (ok .word i h)
+
+-- a row of rows in full, as the part that it is, is its word in full
+pub full-part : (size : ℕ) → size ≡ wordLength → (words : List ℕ) (i : ℕ) → size * i + size ≤ length words
+    → take (size * i + size - size * i) (drop (size * i) words) ≡ inFull (rowBy size words i)
+full-part size e words i inside = part-by size words i ∙ sym (full-same (rowBy size words i) (length-by size words i inside ∙ e))
 
 -- ---- rows in full stay
 

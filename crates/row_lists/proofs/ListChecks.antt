@@ -10,21 +10,20 @@ use native.Mathlib.Decide.{ℕ-discrete}
 use native.Mathlib.Numerals.{add-one}
 use native.Mathlib.Omega.{arith}
 use lib.Dec.{eqb}
-use lib.ListN.{length, getD, take, drop, drop-of-length-le}
+use lib.ListN.{length, getD, drop, drop-of-length-le}
 use lib.Seq.{drop-cons}
 use borrow.Author.Tests.{lt-ltb, le-ltb, ltb-false, eq-eqb, ne-eqb, eqb-true, not-false}
 use Rattle.outcome.specs.declared.Refusal.{Refusal}
 use Rattle.outcome.specs.declared.Refusal.the-variants as Refusal
 use Rattle.outcome.specs.Outcome.{Outcome, answer, refused, refusalOf, verdict, given, Check}
 use Rattle.outcome.proofs.Outcomes.{refused-apart, verdict-fine, verdict-append, front-refused}
-use Rattle.pauli_word.specs.Limits.{maxSites, planeLength, wordLength, oldLength}
-use Rattle.pauli_word.specs.Bytes.{clearFrom, Bytes, AcceptedWord, EitherLength, inFull}
+use Rattle.pauli_word.specs.Limits.{maxSites, wordLength, oldLength}
+use Rattle.pauli_word.specs.Bytes.{Bytes, EitherLength, inFull}
 use Rattle.pauli_word.specs.Calls.{clearAbove, pastOld}
-use Rattle.row_lists.specs.Rows.{maxRows, rowBy, rowSize, inFullBy, rowAt, rowsIn, rowsInFull}
+use Rattle.row_lists.specs.Rows.{maxRows, rowBy, rowSize, inFullBy, rowsIn, rowsInFull}
 use Rattle.row_lists.specs.Checks.{rowsAgree, otherRows, manyRows, oldRows, bitAboveSites, rowRules, rowChecks, listChecks, AcceptedRows}
-use Rattle.row_lists.proofs.Rows.{row-bytes}
 use Rattle.row_lists.proofs.RowsIn.{rows-length, rows-at}
-use Rattle.row_lists.proofs.InFull.{size-either, size-long, size-told, full-bytes, full-long, full-row}
+use Rattle.row_lists.proofs.InFull.{size-either, size-long, size-told, full-row, clear-accepted}
 
 -- ---- the lists' lengths
 
@@ -220,19 +219,7 @@ module _ {C : Type 0} (own : ℕ → C → Check) (d : C) (n size : ℕ) (words 
         verdict-fine (own i (getD cs i d)) [] (word .1) .0
 
     pub accepted-rows : n ≤ maxSites → Bytes words → length cs ≤ maxRows → AcceptedRows n full (length cs)
-    accepted-rows short small few = record { few = few; long = fullLong; word = word }
-      where
-        fullLong : length full ≡ wordLength * length cs
-        fullLong = full-long size either (length cs) words long
-
-        word : (i : ℕ) → i < length cs → AcceptedWord n (rowAt full i)
-        word i h =
-            let bytes = row-bytes full i (full-bytes size (length cs) words small) (omega (arith, fullLong)) in
-            let clear =
-            and-eq-true-iff (clearFrom n (take planeLength (rowAt full i))) (clearFrom n (drop planeLength (rowAt full i))) .0
-            (ap (clearAbove n) (full-row size either (length cs) words long i h) ∙ word-fine i h)
-            in
-            record { sites = short; long = bytes .0; small = bytes .1; xClear = clear .0; zClear = clear .1 }
+    accepted-rows short small few = clear-accepted size either words long short small few word-fine
 
 -- ---- 22, 23, 36, and then the rows
 

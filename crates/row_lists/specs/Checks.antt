@@ -1,5 +1,6 @@
 -- The checks of the lists of a sum, whatever its contents are: 22, 23, 36, and then its rows in order, each for 17 and for a rule of its content.
-use Prim.Native.Nat.{ℕ, suc, _*_, _≤_, _<_}
+-- And those of rows of words alone: 22, 23, 36, and then 17 of each row.
+use Prim.Native.Nat.{ℕ, zero, suc, _*_, _≤_, _<_}
 use mathlib.Core.Path.{_≡_}
 use mathlib.Core.Bool.{Bool, _&&_, _||_, not}
 use mathlib.Core.List.{List, [], _∷_, _++_}
@@ -48,6 +49,20 @@ abbrev pub listChecks : {C : Type 0} → (ℕ → C → Check) → ℕ → List 
 listChecks own n words cs outWords first second =
     otherRows (length words) (length cs) outWords first second ∷ manyRows (length cs) ∷ oldRows n (length words) (length cs)
     ∷ rowChecks own n 0 (rowsIn (rowsInFull (length cs) words) cs)
+
+-- ---- words alone
+
+-- 17 of the k rows from row i on, in order; the words are in full
+abbrev pub bitsAboveSites : ℕ → List ℕ → ℕ → ℕ → List Check
+bitsAboveSites n words i zero = []
+bitsAboveSites n words i (suc k) = bitAboveSites n i (rowAt words i) ∷ bitsAboveSites n words (suc i) k
+
+-- of the lists of a call on k rows of words: 22, 23, 36, and then the rows; the last three are the lengths of the output lists
+abbrev pub wordListChecks : ℕ → List ℕ → ℕ → ℕ → ℕ → ℕ → List Check
+wordListChecks n words k outWords first second =
+    otherRows (length words) k outWords first second ∷ manyRows k ∷ oldRows n (length words) k ∷ bitsAboveSites n (rowsInFull k words) 0 k
+
+-- ---- rows that pass
 
 -- k rows of accepted words of n sites, in full
 pub record AcceptedRows (n : ℕ) (words : List ℕ) (k : ℕ) : Type 0 where

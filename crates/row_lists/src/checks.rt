@@ -1,13 +1,13 @@
-// What is checked of the lists of a sum whatever its contents are: 22, 23, 36, and 17 of a row; and its rows in full. Whoever calls a function here
-// owes its `requires`.
+// What is checked of the lists of a sum whatever its contents are: 22, 23, 36, and 17 of a row; the same of rows of words alone; and rows in full.
+// Whoever calls a function here owes its `requires`.
 ghost use mathlib.Core.Path.{_≡_};
 ghost use mathlib.Core.List.{[], _∷_};
 ghost use Prim.Native.Nat.{_+_, _*_, _≤_};
 ghost use lib.ListN.{length};
 ghost use Rattle.outcome.specs.Outcome.{outcomeOfVerdict, verdict};
 ghost use Rattle.pauli_word.specs.Bytes.{EitherLength, inFull};
-ghost use Rattle.row_lists.specs.Rows.{rowBy, rowSize};
-ghost use Rattle.row_lists.specs.Checks.{rowsAgree, otherRows, manyRows, oldRows, bitAboveSites};
+ghost use Rattle.row_lists.specs.Rows.{rowBy, rowSize, inFullBy};
+ghost use Rattle.row_lists.specs.Checks.{rowsAgree, otherRows, manyRows, oldRows, bitAboveSites, bitsAboveSites, wordListChecks};
 use crate::MAX_ROWS;
 use outcome::Refusal;
 use outcome::Verdict;
@@ -100,5 +100,42 @@ pub fn word_checked(sites: usize, words: &[u8], size: usize, i: usize) -> Verdic
         Verdict::Accepted
     } else {
         Verdict::Refused(Refusal::RowBitAboveSites(i))
+    }
+}
+
+// The check of each row's word, in their order: 17.
+pub fn words_checked(sites: usize, words: &[u8], size: usize, rows: usize) -> Verdict
+    requires { ⌜ EitherLength size × (length (now words) ≡ size * rows) ⌝ }
+    ensures { λ r. ⌜ outcomeOfVerdict r ≡ verdict (bitsAboveSites sites (inFullBy size rows (now (words .entry))) 0 rows) ⌝ }
+{
+    let mut i = 0;
+    while i < rows {
+        match word_checked(sites, words, size, i) {
+            Verdict::Refused(why) => {
+                return Verdict::Refused(why);
+            }
+            Verdict::Accepted => {
+                i += 1;
+            }
+        }
+    }
+    Verdict::Accepted
+}
+
+// The checks of the lists of a call on rows of words alone: 22, 23, 36, and then 17 of each row.
+pub fn word_lists_checked(
+    sites: usize,
+    words: &[u8],
+    rows: usize,
+    leasts: usize,
+    first: usize,
+    second: usize,
+) -> Verdict
+    ensures { λ r. ⌜ outcomeOfVerdict r ≡ verdict (wordListChecks sites (now (words .entry)) rows leasts first second) ⌝ }
+{
+    let size = row_size(words.len(), rows);
+    match lengths_checked(sites, words.len(), rows, leasts, first, second) {
+        Verdict::Refused(why) => Verdict::Refused(why),
+        Verdict::Accepted => words_checked(sites, words, size, rows),
     }
 }

@@ -1,0 +1,336 @@
+// Candidates that bits do not tell apart soon: the word is moved to each that is left, and the words are compared. And what the candidates that lead say.
+ghost use mathlib.Core.Path.{_≡_};
+ghost use mathlib.Core.Bool.{true, false, _||_};
+ghost use Prim.Native.Nat.{ℕ, _+_, _*_, _≤_, _<_};
+ghost use lib.Dec.{eqb};
+ghost use lib.ListN.{length};
+ghost use Rattle.pauli_word.specs.Word.{Word};
+ghost use Rattle.pauli_word.specs.Calls.{orderOfWords};
+ghost use Rattle.action.specs.Index.{orderOf};
+ghost use Rattle.action.specs.Orbit.{forward};
+ghost use Rattle.elements.specs.HeldGroup.{generatorsIn, Tables};
+ghost use Rattle.packed.specs.Packed.{wordBits, planeWords, bitOf, lettersAt};
+ghost use Rattle.rotation.specs.Rotation.{Shapes, Planes, led};
+ghost use Rattle.grid.specs.Candidates.{candidate, Among, Leading};
+ghost use Rattle.grid.specs.Weighing.{found as foundBy, Weighed};
+use crate::candidates;
+use packed::PLANE_WORDS;
+use packed::WORD_BITS;
+use pauli_word::Ordering;
+
+// Puts k into a set.
+pub fn put(k: usize, set: &mut [u64])
+    requires { ⌜ k < wordBits * length (now set) ⌝ }
+    ensures { λ _. ⌜ ((j : ℕ) → bitOf (now (set .exit)) j ≡ (eqb j k || bitOf (now (set .entry)) j)) ⌝ }
+{
+    let i = k / WORD_BITS;
+    let bit = candidates::alone_word(k, i);
+    set[i] = bit | set[i];
+}
+
+// Makes k the only one in a set.
+pub fn put_alone(k: usize, set: &mut [u64])
+    requires { ⌜ k < wordBits * length (now set) ⌝ }
+    ensures { λ _. ⌜ ((j : ℕ) → bitOf (now (set .exit)) j ≡ eqb j k) ⌝ }
+{
+    packed::shift::fill_run(0, 0, set);
+    put(k, set);
+}
+
+// The word that candidate k gives, in planes of its own.
+pub fn give(
+    targets: &[u16],
+    orders: &[u32],
+    generators: usize,
+    sites: usize,
+    strides: &[usize],
+    rests: &[usize],
+    x: &[u64],
+    z: &[u64],
+    k: usize,
+    u: &mut [u64],
+    v: &mut [u64],
+)
+    requires { ⌜ Tables generators sites (now targets) (now orders) ⌝ }
+    requires { ⌜ Shapes generators sites (now targets) (now strides) (now rests) ⌝ }
+    requires { ⌜ Planes sites (length (now x)) (now x) (now z) ⌝ }
+    requires { ⌜ (length (now u) ≡ length (now x)) × (length (now v) ≡ length (now z)) ⌝ }
+    ensures planes { λ _. ⌜ Planes sites (length (now (x .entry))) (now (u .exit)) (now (v .exit)) ⌝ }
+    ensures letters { λ _. ⌜ lettersAt sites (now (u .exit)) (now (v .exit)) ≡ candidate (generatorsIn generators sites (now (targets .entry)) (now (orders .entry))) (lettersAt sites (now (x .entry)) (now (z .entry))) k ⌝ }
+{
+    packed::words::copy(x, u);
+    packed::words::copy(z, v);
+    let index = elements::index::invert(targets, orders, generators, sites, k);
+    rotation::reach::reach(
+        targets,
+        orders,
+        generators,
+        sites,
+        strides,
+        rests,
+        index,
+        u,
+        v,
+    );
+}
+
+// Compares the word at hand, which candidate k gives, with the best so far: if it is less, it becomes the best and k alone is found; if it is the same, k is
+// found too.
+pub fn weigh(
+    u: &[u64],
+    v: &[u64],
+    sites: usize,
+    k: usize,
+    xs: &mut [u64],
+    zs: &mut [u64],
+    found: &mut [u64],
+)
+    requires { ⌜ (length (now v) ≡ length (now zs)) × (k < wordBits * length (now found)) ⌝ }
+    requires { ⌜ Planes sites (length (now xs)) (now u) (now v) ⌝ }
+    requires { ⌜ Planes sites (length (now xs)) (now xs) (now zs) ⌝ }
+    ensures planes { λ _. ⌜ Planes sites (length (now (xs .entry))) (now (xs .exit)) (now (zs .exit)) ⌝ }
+    ensures letters { λ _. ⌜ lettersAt sites (now (xs .exit)) (now (zs .exit)) ≡ led (orderOfWords (lettersAt sites (now (u .entry)) (now (v .entry))) (lettersAt sites (now (xs .entry)) (now (zs .entry)))) (lettersAt sites (now (u .entry)) (now (v .entry))) (lettersAt sites (now (xs .entry)) (now (zs .entry))) ⌝ }
+    ensures found { λ _. ⌜ ((j : ℕ) → bitOf (now (found .exit)) j ≡ foundBy (orderOfWords (lettersAt sites (now (u .entry)) (now (v .entry))) (lettersAt sites (now (xs .entry)) (now (zs .entry)))) (eqb j k) (bitOf (now (found .entry)) j)) ⌝ }
+{
+    match rotation::planes::order_of(u, v, xs, zs, sites) {
+        Ordering::Less => {
+            packed::words::copy(u, xs);
+            packed::words::copy(v, zs);
+            put_alone(k, found);
+        }
+        Ordering::Same => {
+            put(k, found);
+        }
+        Ordering::Greater => {}
+    }
+}
+
+// Weighs candidate k if it is left. u and v are room for the word that it gives; xs and zs hold the best so far, found those that give it.
+pub fn weigh_next(
+    targets: &[u16],
+    orders: &[u32],
+    generators: usize,
+    sites: usize,
+    strides: &[usize],
+    rests: &[usize],
+    x: &[u64],
+    z: &[u64],
+    left: &[u64],
+    k: usize,
+    u: &mut [u64],
+    v: &mut [u64],
+    xs: &mut [u64],
+    zs: &mut [u64],
+    found: &mut [u64],
+)
+    requires { ⌜ Tables generators sites (now targets) (now orders) ⌝ }
+    requires { ⌜ Shapes generators sites (now targets) (now strides) (now rests) ⌝ }
+    requires { ⌜ Planes sites (length (now x)) (now x) (now z) × Planes sites (length (now x)) (now xs) (now zs) ⌝ }
+    requires { ⌜ (length (now u) ≡ length (now x)) × (length (now v) ≡ length (now z)) × (length (now zs) ≡ length (now z)) ⌝ }
+    requires { ⌜ k < wordBits * length (now found) ⌝ }
+    requires { ⌜ Weighed (generatorsIn generators sites (now targets) (now orders)) (lettersAt sites (now x) (now z)) (bitOf (now left)) k (lettersAt sites (now xs) (now zs)) (bitOf (now found)) ⌝ }
+    ensures planes { λ _. ⌜ Planes sites (length (now (x .entry))) (now (xs .exit)) (now (zs .exit)) ⌝ }
+    ensures weighed { λ _. ⌜ Weighed (generatorsIn generators sites (now (targets .entry)) (now (orders .entry))) (lettersAt sites (now (x .entry)) (now (z .entry))) (bitOf (now (left .entry))) (k + 1) (lettersAt sites (now (xs .exit)) (now (zs .exit))) (bitOf (now (found .exit))) ⌝ }
+{
+    if !candidates::holds(left, k) {
+        return;
+    }
+    give(
+        targets,
+        orders,
+        generators,
+        sites,
+        strides,
+        rests,
+        x,
+        z,
+        k,
+        u,
+        v,
+    );
+    weigh(u, v, sites, k, xs, zs, found);
+}
+
+// Weighs all candidates that are left, from the first on.
+pub fn weigh_all(
+    targets: &[u16],
+    orders: &[u32],
+    generators: usize,
+    sites: usize,
+    strides: &[usize],
+    rests: &[usize],
+    order: usize,
+    x: &[u64],
+    z: &[u64],
+    left: &[u64],
+    u: &mut [u64],
+    v: &mut [u64],
+    xs: &mut [u64],
+    zs: &mut [u64],
+    found: &mut [u64],
+)
+    requires { ⌜ Tables generators sites (now targets) (now orders) ⌝ }
+    requires { ⌜ Shapes generators sites (now targets) (now strides) (now rests) ⌝ }
+    requires { ⌜ Planes sites (length (now x)) (now x) (now z) × Planes sites (length (now x)) (now xs) (now zs) ⌝ }
+    requires { ⌜ (length (now u) ≡ length (now x)) × (length (now v) ≡ length (now z)) × (length (now zs) ≡ length (now z)) ⌝ }
+    requires { ⌜ order ≤ wordBits * length (now found) ⌝ }
+    requires { ⌜ Weighed (generatorsIn generators sites (now targets) (now orders)) (lettersAt sites (now x) (now z)) (bitOf (now left)) 0 (lettersAt sites (now xs) (now zs)) (bitOf (now found)) ⌝ }
+    ensures { λ _. ⌜ Weighed (generatorsIn generators sites (now (targets .entry)) (now (orders .entry))) (lettersAt sites (now (x .entry)) (now (z .entry))) (bitOf (now (left .entry))) order (lettersAt sites (now (xs .exit)) (now (zs .exit))) (bitOf (now (found .exit))) ⌝ }
+{
+    let mut k = 0;
+    while k < order {
+        weigh_next(
+            targets,
+            orders,
+            generators,
+            sites,
+            strides,
+            rests,
+            x,
+            z,
+            left,
+            k,
+            u,
+            v,
+            xs,
+            zs,
+            found,
+        );
+        k += 1;
+    }
+}
+
+// Of the candidates left, those that give the least word, with room for two words and a set.
+pub fn settle_in(
+    targets: &[u16],
+    orders: &[u32],
+    generators: usize,
+    sites: usize,
+    strides: &[usize],
+    rests: &[usize],
+    order: usize,
+    x: &[u64],
+    z: &[u64],
+    left: &mut [u64],
+    u: &mut [u64],
+    v: &mut [u64],
+    xs: &mut [u64],
+    zs: &mut [u64],
+    found: &mut [u64],
+)
+    requires { ⌜ Tables generators sites (now targets) (now orders) ⌝ }
+    requires { ⌜ order ≡ orderOf (generatorsIn generators sites (now targets) (now orders)) ⌝ }
+    requires { ⌜ Shapes generators sites (now targets) (now strides) (now rests) ⌝ }
+    requires { ⌜ Planes sites (length (now x)) (now x) (now z) ⌝ }
+    requires { ⌜ (length (now u) ≡ length (now x)) × (length (now v) ≡ length (now z)) ⌝ }
+    requires { ⌜ (length (now xs) ≡ length (now x)) × (length (now zs) ≡ length (now z)) × (length (now found) ≡ length (now left)) ⌝ }
+    requires { ⌜ (order ≤ wordBits * length (now left)) × (length (now left) ≤ planeWords) ⌝ }
+    requires { ⌜ Among (generatorsIn generators sites (now targets) (now orders)) (lettersAt sites (now x) (now z)) (bitOf (now left)) ⌝ }
+    ensures { λ _. ⌜ Leading (generatorsIn generators sites (now (targets .entry)) (now (orders .entry))) (lettersAt sites (now (x .entry)) (now (z .entry))) (bitOf (now (left .exit))) ⌝ }
+{
+    let k = candidates::first_of(left);
+    give(
+        targets,
+        orders,
+        generators,
+        sites,
+        strides,
+        rests,
+        x,
+        z,
+        k,
+        xs,
+        zs,
+    );
+    packed::shift::fill_run(0, 0, found);
+    weigh_all(
+        targets,
+        orders,
+        generators,
+        sites,
+        strides,
+        rests,
+        order,
+        x,
+        z,
+        left,
+        u,
+        v,
+        xs,
+        zs,
+        found,
+    );
+    packed::words::copy(found, left);
+}
+
+// Of the candidates left, those that give the least word.
+pub fn settle(
+    targets: &[u16],
+    orders: &[u32],
+    generators: usize,
+    sites: usize,
+    strides: &[usize],
+    rests: &[usize],
+    order: usize,
+    x: &[u64],
+    z: &[u64],
+    left: &mut [u64],
+)
+    requires { ⌜ Tables generators sites (now targets) (now orders) ⌝ }
+    requires { ⌜ order ≡ orderOf (generatorsIn generators sites (now targets) (now orders)) ⌝ }
+    requires { ⌜ Shapes generators sites (now targets) (now strides) (now rests) ⌝ }
+    requires { ⌜ Planes sites (length (now x)) (now x) (now z) × (length (now z) ≡ length (now x)) ⌝ }
+    requires { ⌜ (order ≤ wordBits * length (now left)) × (length (now left) ≤ planeWords) ⌝ }
+    requires { ⌜ Among (generatorsIn generators sites (now targets) (now orders)) (lettersAt sites (now x) (now z)) (bitOf (now left)) ⌝ }
+    ensures { λ _. ⌜ Leading (generatorsIn generators sites (now (targets .entry)) (now (orders .entry))) (lettersAt sites (now (x .entry)) (now (z .entry))) (bitOf (now (left .exit))) ⌝ }
+{
+    let m = x.len();
+    let s = left.len();
+    let mut here_x = [0u64; PLANE_WORDS];
+    let mut here_z = [0u64; PLANE_WORDS];
+    let mut best_x = [0u64; PLANE_WORDS];
+    let mut best_z = [0u64; PLANE_WORDS];
+    let mut found = [0u64; PLANE_WORDS];
+    settle_in(
+        targets,
+        orders,
+        generators,
+        sites,
+        strides,
+        rests,
+        order,
+        x,
+        z,
+        left,
+        &mut here_x[0..m],
+        &mut here_z[0..m],
+        &mut best_x[0..m],
+        &mut best_z[0..m],
+        &mut found[0..s],
+    );
+}
+
+// The smallest index that reaches the least word: the least inverse of a candidate that leads.
+pub fn forward_of(
+    targets: &[u16],
+    orders: &[u32],
+    generators: usize,
+    sites: usize,
+    order: usize,
+    left: &[u64],
+) -> usize
+    requires { ⌜ Tables generators sites (now targets) (now orders) ⌝ }
+    requires { ⌜ order ≡ orderOf (generatorsIn generators sites (now targets) (now orders)) ⌝ }
+    ensures { λ r. ⌜ ((w : Word) → length w ≡ sites → Leading (generatorsIn generators sites (now (targets .entry)) (now (orders .entry))) w (bitOf (now (left .entry))) → r ≡ forward (generatorsIn generators sites (now (targets .entry)) (now (orders .entry))) w) ⌝ }
+{
+    let mut best = order;
+    let mut k = 0;
+    while k < order {
+        if candidates::holds(left, k) {
+            let index = elements::index::invert(targets, orders, generators, sites, k);
+            best = packed::shift::smaller(index, best);
+        }
+        k += 1;
+    }
+    best
+}
