@@ -1,31 +1,18 @@
-//! The bench: ours through the C interface and the listed Rust, in turn in one process, on the same random words. Times are of one call, or of one row
-//! of a sum; the ratio is the Rust's least time over ours. Ours is handed words in full; the Rust's have the bytes of the old form, since above 128 bytes
-//! a plane it rotates no longer by masks but moves letters site by site.
+//! The bench: ours through the C interface and the listed Rust, in turn in one process, on the same words. Times are of one call, of one row of a sum, or of
+//! one of many words in one call; the ratio is the Rust's least time over ours. Ours is handed words in full; the Rust's have the bytes of the old form where
+//! these hold the sites, since above 128 bytes a plane it rotates no longer by masks but moves letters site by site.
 
+use crate::bulk::{self, Call, WORDS};
 use crate::cases::{Group, Lattice};
 use crate::groups;
 use crate::interface::*;
 use crate::random::Random;
 use crate::rust::{OldWord, old_bytes, value_of};
 use crate::sizes::*;
+use crate::timing::{Side, Times, in_turn, time, timed};
 use ppvm_pauli_sum::symmetry::group::TranslationGroup;
 use ppvm_pauli_sum::symmetry::merge;
 use std::hint::black_box;
-use std::time::{Duration, Instant};
-
-/// How long one line of the bench may take, how many rounds it has at least, and how long one side of a round takes at least.
-const BUDGET: Duration = Duration::from_secs(3);
-const LEAST_ROUNDS: usize = 5;
-const LEAST_ROUND: Duration = Duration::from_micros(500);
-
-/// Words that the calls of a line go round.
-const WORDS: usize = 256;
-
-/// Nanoseconds: the least and the median of all rounds.
-struct Times {
-    least: f64,
-    median: f64,
-}
 
 struct Measured {
     name: String,
@@ -40,42 +27,79 @@ impl Measured {
     fn ratio(&self) -> f64 {
         self.rust.least / self.ours.least
     }
+
+    fn line(&self) {
+        println!("bench {}, {}: ours {}, the Rust {}, ratio {:.2}", self.name, self.call, self.ours.both(), self.rust.both(), self.ratio());
+    }
+
+    fn row(&self) {
+        let (ours, rust) = (self.ours.both(), self.rust.both());
+        println!("| {} | {} | {} | `{}` | {ours} | {rust} | {:.2} |", self.name, self.sites, self.order, self.call, self.ratio());
+    }
+}
+
+/// What the check of a group takes of a call with many words: the check alone, a call with one word, and one of many words by the word.
+struct Check {
+    name: &'static str,
+    sites: usize,
+    order: usize,
+    check: Times,
+    one: Times,
+    many: Times,
+}
+
+impl Check {
+    /// The check's part of the call with one word and of the one with many, in percent.
+    fn shares(&self) -> String {
+        let share = |call: f64| 100.0 * self.check.least / call;
+        format!("{:.0} %, {:.1} %", share(self.one.least), share(self.many.least * WORDS as f64))
+    }
+
+    fn times(&self) -> [String; 3] {
+        [&self.check, &self.one, &self.many].map(|times| time(times.least))
+    }
+
+    fn line(&self) {
+        let [check, one, many] = self.times();
+        println!("bench {}, the check of 14: {check}; 1 word {one}, one of {WORDS} {many}; its share {}", self.name, self.shares());
+    }
+
+    fn row(&self) {
+        let times = self.times().join(" | ");
+        println!("| {} | {} | {} | {times} | {} |", self.name, self.sites, self.order, self.shares());
+    }
 }
 
 /// A line for each measurement.
 pub fn lines() {
-    measure_all(|m| println!("bench {}, {}: ours {}, the Rust {}, ratio {:.2}", m.name, m.call, m.ours.both(), m.rust.both(), m.ratio()));
+    measure_calls(Measured::line);
+    measure_many(Measured::line);
+    measure_check(Check::line);
 }
 
-/// The table of docs/BENCH.md.
-pub fn table() {
-    println!("| group | sites | order | call | ours, least | the Rust, least | ratio |");
+/// The tables of docs/BENCH.md: single calls and sums; many words in one call; and what the check of the group takes of one.
+pub fn tables() {
+    let head = |first: &str| {
+        println!("| {first} | sites | order | call | ours, least | the Rust, least | ratio |");
+        println!("|---|---|---|---|---|---|---|");
+    };
+    head("group");
+    measure_calls(Measured::row);
+    println!();
+    head("group and words");
+    measure_many(Measured::row);
+    println!();
+    println!(
+        "| group | sites | order | the check of 14 (`order`) | `canonicalize_words`, 1 word | {WORDS} words, by the word | share of the check |"
+    );
     println!("|---|---|---|---|---|---|---|");
-    measure_all(|m| {
-        let (ours, rust) = (m.ours.both(), m.rust.both());
-        println!("| {} | {} | {} | `{}` | {ours} | {rust} | {:.2} |", m.name, m.sites, m.order, m.call, m.ratio());
-    });
+    measure_check(Check::row);
 }
 
-impl Times {
-    fn both(&self) -> String {
-        format!("{} (median {})", time(self.least), time(self.median))
-    }
-}
-
-/// Nanoseconds in a readable unit.
-fn time(nanoseconds: f64) -> String {
-    match nanoseconds {
-        ..1e4 => format!("{nanoseconds:.0} ns"),
-        ..1e7 => format!("{:.1} µs", nanoseconds / 1e3),
-        _ => format!("{:.0} ms", nanoseconds / 1e6),
-    }
-}
-
-fn measure_all(report: impl Fn(&Measured)) {
+fn measure_calls(report: fn(&Measured)) {
     let mut random = Random::of(0, "bench", 0);
     for (name, group) in benched_groups(&mut random) {
-        let words: Vec<OldWord> = (0..WORDS).map(|_| random_word(&mut random, group.n_qubits())).collect();
+        let words: Vec<OldWord> = (0..WORDS).map(|_| bulk::any_word(&mut random, group.n_qubits()).into()).collect();
         report(&measured(&name, &group, "canonicalize_with_index", with_index(&group, &words)));
         report(&measured(&name, &group, "canonicalize_in_sector", in_sector(&group, &words)));
     }
@@ -86,34 +110,58 @@ fn measure_all(report: impl Fn(&Measured)) {
     }
 }
 
-fn measured(name: &str, group: &TranslationGroup, call: &'static str, (ours, rust): (Times, Times)) -> Measured {
+/// Many words in one call, by the word.
+fn measure_many(report: fn(&Measured)) {
+    let mut random = Random::of(0, "bench many", 0);
+    for (name, lattice) in LATTICES.into_iter().chain([WIDE]) {
+        let group = groups::accepted(lattice);
+        for (kind, words) in bulk::kinds(&mut random, lattice) {
+            for call in Call::BOTH {
+                let times = in_turn([bulk::ours(call, &group, &words), bulk::rust(call, &group, &words)]);
+                report(&measured(&format!("{name}, {kind}"), &group, call.name(), times));
+            }
+        }
+    }
+}
+
+fn measure_check(report: fn(&Check)) {
+    let mut random = Random::of(0, "bench check", 0);
+    for (name, lattice) in LATTICES.into_iter().chain([WIDE]) {
+        let group = groups::accepted(lattice);
+        let words: Vec<String> = (0..WORDS).map(|_| bulk::any_word(&mut random, group.n_qubits())).collect();
+        let sides = [bulk::check(&group), bulk::ours(Call::Words, &group, &words[..1]), bulk::ours(Call::Words, &group, &words)];
+        let [check, one, many] = in_turn(sides);
+        report(&Check { name, sites: group.n_qubits(), order: group.order(), check, one, many });
+    }
+}
+
+fn measured(name: &str, group: &TranslationGroup, call: &'static str, [ours, rust]: [Times; 2]) -> Measured {
     Measured { name: name.to_string(), sites: group.n_qubits(), order: group.order(), call, ours, rust }
 }
 
-fn benched_groups(random: &mut Random) -> Vec<(String, TranslationGroup)> {
-    let lattices = [
-        ("chain 64", Lattice::Chain(64)),
-        ("chain 256", Lattice::Chain(256)),
-        ("ladder 64 x 4", Lattice::Ladder(64, 4)),
-        ("torus 8 x 8", Lattice::Torus2(8, 8)),
-        ("torus 16 x 16", Lattice::Torus2(16, 16)),
-        ("torus 6 x 6 x 7", Lattice::Torus3(6, 6, 7)),
-    ];
-    let lattice = |(name, lattice): (&str, Lattice)| (name.to_string(), groups::accepted(lattice));
-    let mut all: Vec<(String, TranslationGroup)> = lattices.map(lattice).to_vec();
-    all.push(("four rings of 32".to_string(), groups::rings(4, 32).chosen().group));
-    all.push(("torus 16 x 16, sites renumbered".to_string(), groups::renumbered(random, Lattice::Torus2(16, 16)).chosen().group));
-    all
-}
+const LATTICES: [(&str, Lattice); 6] = [
+    ("chain 64", Lattice::Chain(64)),
+    ("chain 256", Lattice::Chain(256)),
+    ("ladder 64 x 4", Lattice::Ladder(64, 4)),
+    ("torus 8 x 8", Lattice::Torus2(8, 8)),
+    ("torus 16 x 16", Lattice::Torus2(16, 16)),
+    ("torus 6 x 6 x 7", Lattice::Torus3(6, 6, 7)),
+];
 
-fn random_word(random: &mut Random, sites: usize) -> OldWord {
-    let text: String = (0..sites).map(|_| random.pick(&['I', 'X', 'Y', 'Z'])).collect();
-    OldWord::from(text)
+/// A lattice of more sites than the old form holds.
+const WIDE: (&str, Lattice) = ("torus 40 x 40", Lattice::Torus2(40, 40));
+
+fn benched_groups(random: &mut Random) -> Vec<(String, TranslationGroup)> {
+    let lattice = |(name, lattice): (&str, Lattice)| (name.to_string(), groups::accepted(lattice));
+    let mut all: Vec<(String, TranslationGroup)> = LATTICES.map(lattice).to_vec();
+    all.push(("four rings of 32".to_string(), groups::rings(4, 32).chosen().group));
+    all.push(("torus 16 x 16, sites renumbered".to_string(), groups::shifts_of(Lattice::Torus2(16, 16)).renumbered(random).chosen().group));
+    all
 }
 
 /// Rows of a sum by how their representatives follow one another.
 fn benched_rows(random: &mut Random, group: &TranslationGroup) -> Vec<(&'static str, Vec<OldWord>)> {
-    let mut rising: Vec<OldWord> = (0..MAX_ROWS).map(|_| random_word(random, group.n_qubits())).collect();
+    let mut rising: Vec<OldWord> = (0..MAX_ROWS).map(|_| bulk::any_word(random, group.n_qubits()).into()).collect();
     rising.sort_by_cached_key(|word| group.canonicalize(word));
     let falling = rising.iter().rev().copied().collect();
     let mut shuffled = rising.clone();
@@ -123,75 +171,35 @@ fn benched_rows(random: &mut Random, group: &TranslationGroup) -> Vec<(&'static 
     vec![("rising", rising), ("falling", falling), ("random", shuffled), ("all equal", equal)]
 }
 
-/// Times both sides in turn. Each takes a number of calls and how many went before, and says how long they took; a time is given for one of `parts`
-/// parts of a call.
-fn in_turn(parts: usize, ours: impl Fn(usize, usize) -> Duration, rust: impl Fn(usize, usize) -> Duration) -> (Times, Times) {
-    let enough = |side: &dyn Fn(usize, usize) -> Duration| {
-        let mut calls = 1;
-        while side(calls, 0) < LEAST_ROUND {
-            calls *= 2;
-        }
-        calls
-    };
-    let start = Instant::now();
-    let (of_ours, of_rust) = (enough(&ours), enough(&rust));
-    let mut rounds: Vec<(f64, f64)> = Vec::new();
-    while rounds.len() < LEAST_ROUNDS || start.elapsed() < BUDGET {
-        let per_part = |time: Duration, calls: usize| time.as_nanos() as f64 / (calls * parts) as f64;
-        let number = rounds.len();
-        rounds.push((per_part(ours(of_ours, number * of_ours), of_ours), per_part(rust(of_rust, number * of_rust), of_rust)));
-    }
-    (times(rounds.iter().map(|round| round.0)), times(rounds.iter().map(|round| round.1)))
-}
-
-fn times(rounds: impl Iterator<Item = f64>) -> Times {
-    let mut sorted: Vec<f64> = rounds.collect();
-    sorted.sort_by(f64::total_cmp);
-    Times { least: sorted[0], median: sorted[sorted.len() / 2] }
-}
-
-fn timed(call: impl FnOnce()) -> Duration {
-    let start = Instant::now();
-    call();
-    start.elapsed()
-}
-
-/// Calls of a side, going round the words.
-fn round<'a, W>(words: &'a [W], call: impl Fn(&W) + 'a) -> impl Fn(usize, usize) -> Duration + 'a {
-    move |calls, before| timed(|| (before..before + calls).for_each(|i| call(&words[i % words.len()])))
-}
-
-fn with_index(group: &TranslationGroup, words: &[OldWord]) -> (Times, Times) {
+fn with_index(group: &TranslationGroup, words: &[OldWord]) -> [Times; 2] {
     let value = value_of(group);
     let ours: Vec<Vec<u8>> = words.iter().map(old_bytes).collect();
-    in_turn(
-        1,
-        round(&ours, |word| {
+    in_turn([
+        Side::round(ours, |word| {
             black_box(ours_with_index(&value, word));
         }),
-        round(words, |word| {
+        Side::round(words.to_vec(), |word| {
             black_box(group.canonicalize_with_index(word));
         }),
-    )
+    ])
 }
 
-fn in_sector(group: &TranslationGroup, words: &[OldWord]) -> (Times, Times) {
+fn in_sector(group: &TranslationGroup, words: &[OldWord]) -> [Times; 2] {
     let value = value_of(group);
     let modes = vec![0; group.n_generators()];
     let ours: Vec<Vec<u8>> = words.iter().map(old_bytes).collect();
-    in_turn(
-        1,
-        round(&ours, |word| {
+    in_turn([
+        Side::round(ours, |word| {
             black_box(ours_in_sector(&value, word, &modes));
         }),
-        round(words, |word| {
+        Side::round(words.to_vec(), |word| {
             black_box(group.canonicalize_in_sector(word, &modes));
         }),
-    )
+    ])
 }
 
 /// Both sides fold all rows at each call; what is timed is the call alone, by the row.
-fn sum(group: &TranslationGroup, rows: &[OldWord]) -> (Times, Times) {
+fn sum(group: &TranslationGroup, rows: &[OldWord]) -> [Times; 2] {
     let value = value_of(group);
     let words: Vec<u8> = rows.iter().flat_map(old_bytes).collect();
     let coefficients: Vec<f64> = (0..rows.len()).map(|i| i as f64).collect();
@@ -205,18 +213,14 @@ fn sum(group: &TranslationGroup, rows: &[OldWord]) -> (Times, Times) {
         let (mut basis, mut coefficients) = (rows.to_vec(), coefficients.clone());
         timed(|| merge::canonicalize_pauli_sum(&mut basis, &mut coefficients, group))
     };
-    in_turn(rows.len(), |calls, _| (0..calls).map(|_| fold_ours()).sum(), |calls, _| (0..calls).map(|_| fold_rust()).sum())
-}
-
-fn parts(group: &Group) -> GroupParts {
-    GroupParts { sites: group.sites, generators: group.generators, orders: group.orders.as_ptr(), targets: group.targets.as_ptr() }
+    in_turn([Side::of(rows.len(), fold_ours), Side::of(rows.len(), fold_rust)])
 }
 
 fn ours_with_index(group: &Group, word: &[u8]) -> ([u8; WORD_BYTES], usize) {
     let (mut least, mut index, mut values) = ([0; WORD_BYTES], 0, [0; VALUES]);
     let rule = call_of_group!(
         gomurin_canonicalize_with_index,
-        parts(group),
+        group.parts(),
         group.sites,
         word.as_ptr(),
         word.len(),
@@ -233,7 +237,7 @@ fn ours_in_sector(group: &Group, word: &[u8], modes: &[i32]) -> ([u8; WORD_BYTES
     let (mut dropped_by, mut values) = (0, [0; VALUES]);
     let rule = call_of_group!(
         gomurin_canonicalize_in_sector,
-        parts(group),
+        group.parts(),
         group.sites,
         word.as_ptr(),
         word.len(),
@@ -255,7 +259,7 @@ fn ours_sum(group: &Group, words: &[u8], coefficients: &[f64], representatives: 
     let (mut rows, mut values) = (0, [0; VALUES]);
     let rule = call_of_group!(
         gomurin_canonicalize_pauli_sum,
-        parts(group),
+        group.parts(),
         words.as_ptr(),
         words.len(),
         coefficients.as_ptr(),

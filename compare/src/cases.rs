@@ -1,7 +1,8 @@
 //! The lines that cases are made of, and how answers are written. Both sides answer the same lines, each by a text; where the texts differ, the
 //! lines that led there are the case.
 //!
-//! The lines are those of a list of cases, which a program of the gate replays; `set walk ..` and `set at ..` are for the comparison alone.
+//! The lines are those of a list of cases, which a program of the gate replays; `set walk ..`, `set at ..`, `words ..` and `sector_words ..` are for the
+//! comparison alone.
 
 use crate::sizes::*;
 use std::cmp::Ordering;
@@ -116,6 +117,14 @@ pub enum Line {
     Whole(i64),
     /// The words of the rows, put in the old form, one after the other from the front of their list.
     OldRows,
+    /// The least words of the rows and the indices back, in one call.
+    Words,
+    /// The same with lists of these lengths: words, representatives and indices.
+    WordsOf([usize; 3]),
+    /// The rows in a sector, in one call.
+    SectorWords,
+    /// The same with lists of these lengths: words, representatives, indices and sizes.
+    SectorWordsOf([usize; 4]),
     Sum,
     /// A sum with lists of these lengths: words, coefficients, representatives, sums and counts.
     SumOf([usize; 5]),
@@ -198,6 +207,10 @@ impl Display for Line {
             Line::Row(coefficient) => write!(f, "row {:016x}", coefficient.to_bits()),
             Line::Whole(coefficient) => write!(f, "whole {coefficient}"),
             Line::OldRows => write!(f, "old_rows"),
+            Line::Words => write!(f, "words"),
+            Line::WordsOf(lengths) => write!(f, "words{}", list(lengths)),
+            Line::SectorWords => write!(f, "sector_words"),
+            Line::SectorWordsOf(lengths) => write!(f, "sector_words{}", list(lengths)),
             Line::Sum => write!(f, "sum"),
             Line::SumOf(lengths) => write!(f, "sum{}", list(lengths)),
             Line::Project => write!(f, "project"),
@@ -227,7 +240,7 @@ impl Display for Refusal {
     }
 }
 
-/// How many values a rule names; a sum's 17 names its row besides.
+/// How many values a rule names; 17 of a row names its row besides.
 pub fn values_named(rule: usize) -> usize {
     match rule {
         4..=7 | 11 => 2,
@@ -308,6 +321,31 @@ pub fn ordering(order: Ordering) -> &'static str {
 /// The steps of a walk on one line.
 pub fn steps(answers: &[String]) -> String {
     answers.join("; ")
+}
+
+/// The lengths of the lists of so many words in one call: words, representatives and indices.
+pub fn words_lengths(rows: usize) -> [usize; 3] {
+    [WORD_BYTES * rows, WORD_BYTES * rows, rows]
+}
+
+/// The same where the words are in the old form.
+pub fn old_words_lengths(rows: usize) -> [usize; 3] {
+    [OLD_WORD_BYTES * rows, WORD_BYTES * rows, rows]
+}
+
+/// The lengths of the lists of so many words in a sector: words, representatives, indices and sizes.
+pub fn sector_lengths(rows: usize) -> [usize; 4] {
+    [WORD_BYTES * rows, WORD_BYTES * rows, rows, rows]
+}
+
+/// The same where the words are in the old form.
+pub fn old_sector_lengths(rows: usize) -> [usize; 4] {
+    [OLD_WORD_BYTES * rows, WORD_BYTES * rows, rows, rows]
+}
+
+/// The rows of many words in one call.
+pub fn many(rows: impl Iterator<Item = String>) -> String {
+    format!("done:{}", list(rows))
 }
 
 /// The lengths of the lists of a sum of so many rows: words, coefficients, representatives, and the two other lists of its result.

@@ -1,5 +1,5 @@
-//! Short inputs, all of them: every word of up to 4 sites under every lattice of that size and every mode list, every pair of short words, every short
-//! generator list; every entry of the table of phases; and the count of pairs that are kept.
+//! Short inputs, all of them: every word of up to 4 sites under every lattice of that size and every mode list, alone and all in one call, every pair of
+//! short words, every short generator list; every entry of the table of phases; and the count of pairs that are kept.
 
 use crate::cases::*;
 use crate::groups::{Generators, cycles, identity};
@@ -57,8 +57,9 @@ fn mode_lists(orders: &[usize]) -> Vec<Vec<i32>> {
 pub fn cases() -> Vec<Case> {
     let all_groups = || (0..=MOST_SITES).flat_map(|sites| groups(sites).into_iter().map(move |line| (sites, line)));
     let of_words = all_groups().flat_map(|(sites, line)| texts(sites).into_iter().map(move |text| word_case(&line, text)));
+    let of_many = all_groups().map(|(sites, line)| many_case(&line, texts(sites)));
     let of_tables = all_groups().map(|(_, line)| table_case(&line));
-    of_words.chain(of_tables).chain([phase_case()]).chain((0..=3).flat_map(compare_cases)).chain(list_cases()).collect()
+    of_words.chain(of_many).chain(of_tables).chain([phase_case()]).chain((0..=3).flat_map(compare_cases)).chain(list_cases()).collect()
 }
 
 /// All that is asked of a word under a group, and every mode list.
@@ -72,6 +73,15 @@ fn word_case(line: &Line, text: Vec<u8>) -> Case {
     for modes in mode_lists(&orders) {
         case.extend([Line::Modes(modes), Line::Sector { places }, Line::Project]);
     }
+    case
+}
+
+/// Many words in one call, under every mode list.
+fn many_case(line: &Line, texts: Vec<Vec<u8>>) -> Case {
+    let mut case = vec![line.clone(), Line::Clear];
+    case.extend(texts.into_iter().flat_map(|text| [Line::Word(text), Line::Row(0.0)]));
+    case.push(Line::Words);
+    case.extend(mode_lists(&orders(line)).into_iter().flat_map(|modes| [Line::Modes(modes), Line::SectorWords]));
     case
 }
 

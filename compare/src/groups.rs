@@ -67,16 +67,27 @@ impl Generators {
         let line = self.line();
         Chosen { line, group: TranslationGroup::from_generators(self.sites, self.permutations, self.orders) }
     }
+
+    /// The same, the sites numbered otherwise.
+    pub fn renumbered(mut self, random: &mut Random) -> Generators {
+        let labels = labels(random, self.sites);
+        self.permutations = self.permutations.iter().map(|permutation| relabelled(permutation, &labels)).collect();
+        self
+    }
+
+    /// The same, and the identity as generator g.
+    pub fn with_identity(mut self, g: usize) -> Generators {
+        self.permutations.insert(g, identity(self.sites));
+        self.orders.insert(g, 1);
+        self
+    }
 }
 
 /// A random group within bounds.
 pub fn group(random: &mut Random, bounds: Bounds) -> Chosen {
     match random.below(8) {
         0..=1 => of_lattice(lattice(random, bounds)),
-        2 => {
-            let lattice = lattice(random, bounds);
-            renumbered(random, lattice).chosen()
-        }
+        2 => shifts_of(lattice(random, bounds)).renumbered(random).chosen(),
         _ => commuting(random, bounds).chosen(),
     }
 }
@@ -141,16 +152,26 @@ fn sides(random: &mut Random, sites: usize) -> (usize, usize, usize) {
     (a, b, sites / a / b)
 }
 
-/// The shifts of a lattice, its sites numbered otherwise.
-pub fn renumbered(random: &mut Random, lattice: Lattice) -> Generators {
+/// The shifts of a lattice.
+pub fn shifts_of(lattice: Lattice) -> Generators {
     let group = accepted(lattice);
-    let labels = labels(random, group.n_qubits());
     let shifts = 0..group.n_generators();
     Generators {
         sites: group.n_qubits(),
-        permutations: shifts.clone().map(|g| relabelled(group.generator_perm(g), &labels)).collect(),
+        permutations: shifts.clone().map(|g| group.generator_perm(g).to_vec()).collect(),
         orders: shifts.map(|g| group.generator_order(g)).collect(),
     }
+}
+
+/// A torus of lx by ly cells with so many sites in each, as a honeycomb (2) or a kagome lattice (3) has them: a cell's site of one sublattice stands at
+/// sublattice * cells + cell.
+pub fn sublattices(lx: usize, ly: usize, number: usize) -> Generators {
+    let cells = lx * ly;
+    let shift = |stride: usize, side: usize| {
+        let target = |q: usize| shifted(q, q / cells * cells, cells, stride, side) as u32;
+        (0..number * cells).map(target).collect()
+    };
+    Generators { sites: number * cells, permutations: vec![shift(1, lx), shift(lx, ly)], orders: vec![lx as u32, ly as u32] }
 }
 
 /// So many rings of so many sites, side by side, each turning by itself.
@@ -180,11 +201,8 @@ fn commuting(random: &mut Random, bounds: Bounds) -> Generators {
         orders.push(order as u32);
         permutations.push(permutation);
     }
-    if random.once_in(2) {
-        let labels = labels(random, sites);
-        permutations = permutations.iter().map(|permutation| relabelled(permutation, &labels)).collect();
-    }
-    Generators { sites, permutations, orders }
+    let generators = Generators { sites, permutations, orders };
+    if random.once_in(2) { generators.renumbered(random) } else { generators }
 }
 
 /// A power of a permutation whose order is at most a bound, and that order. The permutation is a product of so few shifts that its own fits 64 bits.

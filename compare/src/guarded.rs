@@ -35,6 +35,7 @@ pub fn cases() -> Vec<Case> {
     cases.extend(word_questions());
     cases.extend(walks());
     cases.extend(sectors());
+    cases.extend(many());
     cases.extend(sums());
     cases.extend(projections());
     cases.extend(phase_tables());
@@ -284,10 +285,46 @@ fn sectors() -> Vec<Case> {
     [of_groups, of_words].concat()
 }
 
-// ---- sums
+// ---- many words
 
 /// Numbers of rows: few, the most, and one more.
 const ROW_COUNTS: [usize; 6] = [0, 1, 2, 3, MAX_ROWS, MAX_ROWS + 1];
+
+/// Rows of words: good ones, one that few mode lists keep, and rows with a bit above, which the old form has or lacks; in all threes.
+fn word_rows() -> Vec<Case> {
+    let row = |bytes: Vec<u8>| vec![Line::Bytes { sites: SITES, bytes }, Line::Row(0.0)];
+    let above = |byte: usize, value: u8| {
+        let mut bytes = word_bytes(TEXT);
+        bytes[byte] |= value;
+        row(bytes)
+    };
+    let kinds = [row(word_bytes(TEXT)), row(word_bytes(b"XYZXYZ")), row(vec![0; WORD_BYTES]), above(0, 0x40), above(WORD_BYTES - 1, 0x80)];
+    let pairs = cross(&kinds, &kinds);
+    let threes = cross(&pairs, &kinds);
+    [vec![vec![]], kinds.to_vec(), pairs, threes].concat()
+}
+
+/// Every kind of rows under every group value and every mode list, in both forms; lists of all lengths; and one row under every forged group.
+fn many() -> Vec<Case> {
+    let rows = cross(&[vec![Line::Clear]], &word_rows());
+    let groups = cross(&some_group_values(), &mode_lists());
+    let asked = |case: Case| {
+        let count = case.iter().filter(|line| matches!(line, Line::Row(_))).count();
+        let old = [Line::OldRows, Line::WordsOf(old_words_lengths(count)), Line::SectorWordsOf(old_sector_lengths(count))];
+        [&case[..], &[Line::Words, Line::SectorWords], &old].concat()
+    };
+    let of_rows = cross(&groups, &rows).into_iter().map(asked).collect();
+    let words_of = |rows| [with_others(rows, words_lengths(rows)), vec![old_words_lengths(rows)]].concat().into_iter().map(Line::WordsOf);
+    let sectors_of =
+        |rows| [with_others(rows, sector_lengths(rows)), vec![old_sector_lengths(rows)]].concat().into_iter().map(Line::SectorWordsOf);
+    let lengths = ROW_COUNTS.into_iter().flat_map(|rows| words_of(rows).chain(sectors_of(rows))).collect();
+    let of_lengths = cross(&cross(&groups, &rows[..4]), &[lengths]);
+    let old = [old_lists(&rows[..12], old_words_lengths, Line::WordsOf), old_lists(&rows[..12], old_sector_lengths, Line::SectorWordsOf)];
+    let one = vec![Line::Modes(vec![1, 0]), Line::Clear, Line::Word(TEXT.to_vec()), Line::Row(0.0), Line::Words, Line::SectorWords];
+    [of_rows, of_lengths, old.concat(), cross(&group_values(), &[one])].concat()
+}
+
+// ---- sums
 
 /// The rows of sums: good ones, and rows with a bit above, a coefficient that is not finite, a running sum that is not, in all pairs.
 fn row_lists() -> Vec<Case> {
@@ -313,9 +350,8 @@ fn row_lists() -> Vec<Case> {
     [none, kinds.to_vec(), pairs, threes].concat()
 }
 
-/// Lengths of the five lists as they must be, and each one otherwise; of many rows, only longer ones.
-fn with_others(right: [usize; 5]) -> Vec<[usize; 5]> {
-    let rows = right[1];
+/// Lengths of the lists of so many rows as they must be, and each one otherwise; of many rows, only longer ones.
+fn with_others<const N: usize>(rows: usize, right: [usize; N]) -> Vec<[usize; N]> {
     let mut all = vec![right];
     for (changed, &length) in right.iter().enumerate() {
         let others = [length + 1, length + OLD_WORD_BYTES, length + WORD_BYTES, length.saturating_sub(1), OLD_WORD_BYTES * rows, 0];
@@ -330,15 +366,15 @@ fn with_others(right: [usize; 5]) -> Vec<[usize; 5]> {
 
 /// The lengths of the lists of so many rows, and those for words in the old form.
 fn list_lengths(rows: usize) -> Vec<[usize; 5]> {
-    [with_others(sum_lengths(rows)), vec![old_sum_lengths(rows)]].concat()
+    [with_others(rows, sum_lengths(rows)), vec![old_sum_lengths(rows)]].concat()
 }
 
 /// Lists of words in the old form under a group of too many sites for it, of as many as it may have, and of few; the first has 22, 23 and 36 before any
 /// rule of a row. The phase modulus of all divides the entries of a turn.
-fn old_sums(rows: &[Case], sum: fn([usize; 5]) -> Line) -> Vec<Case> {
+fn old_lists<const N: usize>(rows: &[Case], old_lengths: fn(usize) -> [usize; N], line: fn([usize; N]) -> Line) -> Vec<Case> {
     let legs = [OLD_SITES / 2 + 1, OLD_SITES / 2, SITES / 2];
     let groups = legs.map(|legs| vec![Line::Lattice(Lattice::Ladder(2, legs)), Line::Modes(vec![1])]);
-    let lengths = ROW_COUNTS.into_iter().flat_map(|rows| with_others(old_sum_lengths(rows))).map(sum).collect();
+    let lengths = ROW_COUNTS.into_iter().flat_map(|rows| with_others(rows, old_lengths(rows))).map(line).collect();
     cross(&cross(&cross(&groups, rows), &[vec![], vec![Line::OldRows]]), &[lengths])
 }
 
@@ -352,7 +388,7 @@ fn sums() -> Vec<Case> {
     };
     let old: Vec<Case> = of_rows.iter().cloned().map(of_old_rows).collect();
     let of_lengths = cross(&cross(&some_group_values(), &rows[..20]), &[lengths]);
-    [of_rows, old, of_lengths, old_sums(&rows[..12], Line::SumOf)].concat()
+    [of_rows, old, of_lengths, old_lists(&rows[..12], old_sum_lengths, Line::SumOf)].concat()
 }
 
 // ---- projected sums
@@ -396,7 +432,7 @@ fn projections() -> Vec<Case> {
     };
     let lengths = ROW_COUNTS.into_iter().flat_map(list_lengths).map(Line::ProjectOf).collect();
     let of_lengths = cross(&cross(&groups, &rows[..4]), &[lengths]);
-    [of_rows.into_iter().map(asked).collect(), of_lengths, old_sums(&rows[..12], Line::ProjectOf)].concat()
+    [of_rows.into_iter().map(asked).collect(), of_lengths, old_lists(&rows[..12], old_sum_lengths, Line::ProjectOf)].concat()
 }
 
 // ---- phase tables
@@ -555,5 +591,6 @@ pub fn forged_case(random: &mut Random, bounds: Bounds) -> Case {
         case.push(Line::Set(place, value));
     }
     case.extend([Line::Order, Line::Word(words::word(random, &group)), Line::WithIndex, Line::Orbit, Line::Next(2)]);
+    case.extend([Line::Row(0.0), Line::Words, Line::Modes(vec![0; group.n_generators()]), Line::SectorWords]);
     case
 }

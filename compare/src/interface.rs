@@ -1,5 +1,7 @@
 //! include/gomurin.h in Rust: the calls of the library, parameter by parameter. A bool is taken as its byte.
 
+use crate::cases::Group;
+
 #[rustfmt::skip]
 unsafe extern "C" {
     pub fn gomurin_from_text(text: *const u8, text_length: usize, sites: *mut usize, word: *mut u8, values: *mut usize) -> usize;
@@ -45,6 +47,12 @@ unsafe extern "C" {
     pub fn gomurin_canonicalize_in_sector(sites: usize, generators: usize, orders: *const u32, targets: *const u16, n: usize,
         word: *const u8, word_length: usize, modes: *const i32, modes_length: usize, least: *mut u8, counter: *mut u32,
         counter_length: usize, size: *mut usize, kept: *mut u8, dropped_by: *mut usize, values: *mut usize) -> usize;
+    pub fn gomurin_canonicalize_words(sites: usize, generators: usize, orders: *const u32, targets: *const u16, words: *const u8,
+        words_length: usize, representatives: *mut u8, representatives_length: usize, indices: *mut usize, indices_length: usize,
+        values: *mut usize) -> usize;
+    pub fn gomurin_sector_words(sites: usize, generators: usize, orders: *const u32, targets: *const u16, modes: *const i32,
+        modes_length: usize, words: *const u8, words_length: usize, representatives: *mut u8, representatives_length: usize,
+        indices: *mut usize, indices_length: usize, sizes: *mut usize, sizes_length: usize, values: *mut usize) -> usize;
     pub fn gomurin_phase_table(cosines: *mut i64, sines: *mut i64);
     pub fn gomurin_read_phase_table(file: *const u8, file_length: usize, cosines: *mut i64, sines: *mut i64, values: *mut usize) -> usize;
     pub fn gomurin_canonicalize_pauli_sum(sites: usize, generators: usize, orders: *const u32, targets: *const u16, words: *const u8,
@@ -66,6 +74,12 @@ pub struct GroupParts {
     pub generators: usize,
     pub orders: *const u32,
     pub targets: *const u16,
+}
+
+impl Group {
+    pub fn parts(&self) -> GroupParts {
+        GroupParts { sites: self.sites, generators: self.generators, orders: self.orders.as_ptr(), targets: self.targets.as_ptr() }
+    }
 }
 
 /// A call whose first parameters are the parts of a group.

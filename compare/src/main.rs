@@ -1,13 +1,16 @@
 //! Compares the library with the listed Rust of ppvm, part by part, and measures the two. `compare/run` builds and runs this.
 
 mod bench;
+mod bulk;
 mod cases;
 mod example;
 mod exhaustive;
 mod groups;
+mod growth;
 mod guard;
 mod guarded;
 mod interface;
+mod many;
 mod orbits;
 mod ours;
 mod parts;
@@ -20,11 +23,12 @@ mod sheet;
 mod sizes;
 mod sums;
 mod tables;
+mod timing;
 mod words;
 
 use std::process::ExitCode;
 
-const USAGE: &str = "usage: compare/run [--seed S] [--count N] [--compare | --bench | --sample DIR | --alone PART NUMBER]";
+const USAGE: &str = "usage: compare/run [--seed S] [--count N] [--compare | --bench | --growth | --sample DIR | --alone PART NUMBER]";
 
 /// Random cases of a default run; the parts share them.
 const COUNT: usize = 200_000;
@@ -34,6 +38,7 @@ enum Task {
     All,
     Compare,
     Bench,
+    Growth,
     Sample(String),
     Alone(String, usize),
 }
@@ -53,6 +58,7 @@ fn arguments() -> Option<Arguments> {
             "--count" => given.count = words.next()?.parse().ok()?,
             "--compare" => given.task = Task::Compare,
             "--bench" => given.task = Task::Bench,
+            "--growth" => given.task = Task::Growth,
             "--sample" => given.task = Task::Sample(words.next()?),
             "--alone" => given.task = Task::Alone(words.next()?, words.next()?.parse().ok()?),
             _ => return None,
@@ -80,7 +86,11 @@ fn main() -> ExitCode {
             differ
         }
         Task::Bench => {
-            bench::table();
+            bench::tables();
+            0
+        }
+        Task::Growth => {
+            growth::table();
             0
         }
         Task::Sample(folder) => {

@@ -96,6 +96,10 @@ impl Ours {
             Line::Row(coefficient) => set(|| self.row(*coefficient, 0)),
             Line::Whole(coefficient) => set(|| self.row(0.0, *coefficient)),
             Line::OldRows => set(|| old_rows(&mut self.words, self.coefficients.len())),
+            Line::Words => self.canonicalize_words(words_lengths(self.coefficients.len())),
+            Line::WordsOf(lengths) => self.canonicalize_words(*lengths),
+            Line::SectorWords => self.sector_words(sector_lengths(self.coefficients.len())),
+            Line::SectorWordsOf(lengths) => self.sector_words(*lengths),
             Line::Sum => self.canonicalize_pauli_sum(sum_lengths(self.coefficients.len())),
             Line::SumOf(lengths) => self.canonicalize_pauli_sum(*lengths),
             Line::Project => self.project_pauli_sum(sum_lengths(self.wholes.len())),
@@ -316,6 +320,67 @@ impl Ours {
         answer + ":" + &list(counter.get())
     }
 
+    // ---- many words
+
+    /// The lengths are those of the words, representatives and indices.
+    fn canonicalize_words(&mut self, lengths: [usize; 3]) -> String {
+        let mut words = self.words.clone();
+        words.resize(lengths[0], 0);
+        let m = &mut self.memory;
+        let (group, words) = (lend_group(m, &self.group), m.lend(&words));
+        let (representatives, indices, values) = (m.room::<u8>(lengths[1]), m.room::<usize>(lengths[2]), m.room(VALUES));
+        let rule = call_of_group!(
+            gomurin_canonicalize_words,
+            group,
+            words.at,
+            words.length,
+            representatives.at,
+            representatives.length,
+            indices.at,
+            indices.length,
+            values.at
+        );
+        if rule != 0 {
+            return refused_rows(rule, values, filled(representatives) && filled(indices));
+        }
+        let rows = representatives.get().chunks(WORD_BYTES).zip(indices.get());
+        said(rule, values, &[], || many(rows.map(|(least, index)| format!("{} {index}", letters(self.group.sites, least)))))
+    }
+
+    /// The lengths are those of the words, representatives, indices and sizes.
+    fn sector_words(&mut self, lengths: [usize; 4]) -> String {
+        let mut words = self.words.clone();
+        words.resize(lengths[0], 0);
+        let m = &mut self.memory;
+        let (group, modes, words) = (lend_group(m, &self.group), m.lend(&self.modes), m.lend(&words));
+        let (representatives, values) = (m.room::<u8>(lengths[1]), m.room(VALUES));
+        let (indices, sizes) = (m.room::<usize>(lengths[2]), m.room::<usize>(lengths[3]));
+        let rule = call_of_group!(
+            gomurin_sector_words,
+            group,
+            modes.at,
+            modes.length,
+            words.at,
+            words.length,
+            representatives.at,
+            representatives.length,
+            indices.at,
+            indices.length,
+            sizes.at,
+            sizes.length,
+            values.at
+        );
+        if rule != 0 {
+            return refused_rows(rule, values, filled(representatives) && filled(indices) && filled(sizes));
+        }
+        let row = |((least, index), size): ((&[u8], &usize), &usize)| match size {
+            0 if least.iter().all(|&byte| byte == 0) => format!("dropped {index}"),
+            0 => format!("dropped {index}, but a word is handed back"),
+            _ => format!("kept {size} {} {index}", letters(self.group.sites, least)),
+        };
+        said(rule, values, &[], || many(representatives.get().chunks(WORD_BYTES).zip(indices.get()).zip(sizes.get()).map(row)))
+    }
+
     // ---- sums
 
     fn row(&mut self, coefficient: f64, whole: i64) {
@@ -498,6 +563,12 @@ fn said_of(rule: usize, values: Lent<usize>, named: usize, handed_back: &[bool],
         _ if handed_back.iter().all(|&zeros| zeros) => refusal(rule, shown(values.get(), named)).to_string(),
         _ => format!("{}, but something is handed back", refusal(rule, shown(values.get(), named))),
     }
+}
+
+/// A refusal of a call on rows, which leaves its lists as they were; a row's 17 names the row.
+fn refused_rows(rule: usize, values: Lent<usize>, stayed: bool) -> String {
+    let refused = said_of(rule, values, values_named(rule) + usize::from(rule == 17), &[], String::new);
+    refused + if stayed { ", as they were" } else { ", changed" }
 }
 
 /// The values that a rule names, and all of them where others than these are not 0.

@@ -6,7 +6,7 @@ use crate::guard::{self, Side};
 use crate::ours::Ours;
 use crate::random::Random;
 use crate::rust::Rust;
-use crate::{example, exhaustive, groups, guarded, orbits, projections, sectors, sums, tables, words};
+use crate::{example, exhaustive, groups, guarded, many, orbits, projections, sectors, sums, tables, words};
 use std::time::Instant;
 
 struct Part {
@@ -54,11 +54,13 @@ fn parts(seed: u64, count: usize) -> Vec<Part> {
         random("cycles", 500, Bounds::all, groups::cycle_case),
         random("orbits", 2_500, Bounds::common, orbits::case),
         random("sectors", 2_000, Bounds::common, sectors::case),
+        random("many", 1_000, Bounds::common, many::case),
         random("sums", 500, Bounds::common, sums::case),
         random("projections", 500, Bounds::common, projections::case),
         random("tables", 250, Bounds::common, tables::case),
         random("forged", 500, Bounds::common, guarded::forged_case),
         random("large", 2, Bounds::all, orbits::large_case),
+        listed("shapes", many::cases()),
         listed("exhaustive", exhaustive::cases()),
         Part { name: "pairs", count: exhaustive::counted().len(), kind: Kind::Check(Box::new(pairs)) },
         listed("guarded", guarded::cases()),

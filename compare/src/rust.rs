@@ -99,6 +99,10 @@ impl Rust {
             Line::Row(coefficient) => set(|| self.row(*coefficient, 0)),
             Line::Whole(coefficient) => set(|| self.row(0.0, *coefficient)),
             Line::OldRows => set(|| old_rows(&mut self.words, self.coefficients.len())),
+            Line::Words => self.canonicalize_words(words_lengths(self.coefficients.len())),
+            Line::WordsOf(lengths) => self.canonicalize_words(*lengths),
+            Line::SectorWords => self.sector_words(sector_lengths(self.coefficients.len())),
+            Line::SectorWordsOf(lengths) => self.sector_words(*lengths),
             Line::Sum => self.canonicalize_pauli_sum(sum_lengths(self.coefficients.len())),
             Line::SumOf(lengths) => self.canonicalize_pauli_sum(*lengths),
             Line::Project => self.project_pauli_sum(sum_lengths(self.wholes.len())),
@@ -269,6 +273,37 @@ impl Rust {
         said_with_list(sector(), places)
     }
 
+    // ---- many words
+
+    /// The lengths are those of the words, representatives and indices.
+    fn canonicalize_words(&self, lengths: [usize; 3]) -> String {
+        let rows = || {
+            let group = self.group.check()?;
+            let words = check_words(group, lengths, [words_lengths(lengths[2]), old_words_lengths(lengths[2])], lengths[2], &self.words)?;
+            let row = |word: &Word| {
+                let (least, index) = group.canonicalize_with_index(word);
+                format!("{} {index}", text(&least))
+            };
+            Ok(many(words.iter().map(row)))
+        };
+        rows().unwrap_or_else(|refusal: Refusal| format!("{refusal}, as they were"))
+    }
+
+    /// The lengths are those of the words, representatives, indices and sizes.
+    fn sector_words(&self, lengths: [usize; 4]) -> String {
+        let rows = || {
+            let group = self.group.check()?;
+            check(18, self.modes.len() != group.n_generators())?;
+            let words = check_words(group, lengths, [sector_lengths(lengths[2]), old_sector_lengths(lengths[2])], lengths[2], &self.words)?;
+            let row = |word: &Word| match group.canonicalize_in_sector(word, &self.modes) {
+                Some((least, counter, size)) => format!("kept {size} {} {}", text(&least), index_of(group, &counter)),
+                None => format!("dropped {}", dropped_by(group, word, &self.modes)),
+            };
+            Ok(many(words.iter().map(row)))
+        };
+        rows().unwrap_or_else(|refusal: Refusal| format!("{refusal}, as they were"))
+    }
+
     // ---- sums
 
     fn row(&mut self, coefficient: f64, whole: i64) {
@@ -338,15 +373,43 @@ fn check_rows<C: Copy + Default>(
     coefficients: &[C],
 ) -> Result<Vec<Row<C>>, Refusal> {
     let rows = lengths[1];
-    let old = lengths != sum_lengths(rows);
-    check(22, old && lengths != old_sum_lengths(rows))?;
-    check(23, rows > MAX_ROWS)?;
-    check(36, old && group.n_qubits() > OLD_SITES)?;
-    let (mut words, mut coefficients) = (words.to_vec(), coefficients.to_vec());
-    words.resize(lengths[0], 0);
+    let words = check_lists(group, lengths, [sum_lengths(rows), old_sum_lengths(rows)], rows, words)?;
+    let mut coefficients = coefficients.to_vec();
     coefficients.resize(rows, C::default());
-    let words = words.chunks(if old { OLD_WORD_BYTES } else { WORD_BYTES });
-    Ok(words.zip(coefficients).map(|(word, coefficient)| Row { word: spread(word), coefficient }).collect())
+    Ok(words.into_iter().zip(coefficients).map(|(word, coefficient)| Row { word, coefficient }).collect())
+}
+
+/// The words of many rows, by the rules of the lists and then of the rows.
+fn check_words<const N: usize>(
+    group: &TranslationGroup,
+    lengths: [usize; N],
+    needed: [[usize; N]; 2],
+    rows: usize,
+    words: &[u8],
+) -> Result<Vec<Word>, Refusal> {
+    let words = check_lists(group, lengths, needed, rows, words)?;
+    for (i, word) in words.iter().enumerate() {
+        check_row(17, i, has_bit_above(group.n_qubits(), word))?;
+    }
+    Ok(words.iter().map(|bytes| word(group.n_qubits(), bytes)).collect())
+}
+
+/// The words of so many rows, in full, by the rules of lists of these lengths, of which the words are the first; zeros where there are not as many. The
+/// lengths must be those of words in full, or those of words in the old form.
+fn check_lists<const N: usize>(
+    group: &TranslationGroup,
+    lengths: [usize; N],
+    [full, old]: [[usize; N]; 2],
+    rows: usize,
+    words: &[u8],
+) -> Result<Vec<Vec<u8>>, Refusal> {
+    let in_full = lengths == full;
+    check(22, !in_full && lengths != old)?;
+    check(23, rows > MAX_ROWS)?;
+    check(36, !in_full && group.n_qubits() > OLD_SITES)?;
+    let mut words = words.to_vec();
+    words.resize(lengths[0], 0);
+    Ok(words.chunks(if in_full { WORD_BYTES } else { OLD_WORD_BYTES }).map(spread).collect())
 }
 
 /// How many rows have each representative, by the Rust's representatives; or the first row that makes a running sum not finite.
