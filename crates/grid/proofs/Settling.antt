@@ -254,3 +254,12 @@ smallest-forward {gs = gs} v {w} e {S} l {k} {best} all h = go (h .own)
     go : (best ≡ orderOf gs) ⊎ ((j : ℕ) × (S j ≡ true) × (best ≡ inverse gs j)) → best ≡ forward gs w
     go (inl o) = absurd (omega (arith, forward-below v w, small))
     go (inr (j, s, i)) = omega (arith, leading-first v w e l j s, small)
+
+-- none is smaller than 0
+pub smallest-none : {n : ℕ} {gs : List Generator} → Valid n gs → {w : Word} → length w ≡ n → {S : ℕ → Bool} → Leading gs w S → {k best : ℕ}
+    → Smallest gs S k best → best ≡ 0 → 0 ≡ forward gs w
+smallest-none {gs = gs} v {w} e {S} l {k} {best} h none = go (h .own)
+  where
+    go : (best ≡ orderOf gs) ⊎ ((j : ℕ) × (S j ≡ true) × (best ≡ inverse gs j)) → 0 ≡ forward gs w
+    go (inl o) = absurd (omega (arith, forward-below v w))
+    go (inr (j, s, i)) = omega (arith, leading-first v w e l j s)

@@ -326,6 +326,9 @@ pub fn forward_of(
     let mut best = order;
     let mut k = 0;
     while k < order {
+        if best == 0 {
+            return 0;
+        }
         if candidates::holds(left, k) {
             let index = elements::index::invert(targets, orders, generators, sites, k);
             best = packed::shift::smaller(index, best);

@@ -154,7 +154,7 @@ module _ {n : ℕ} {gs : List Generator} (v : Valid n gs) (ks : List ℤ) (w : W
   -- where there is none the modes keep it
   pub tallied-kept : {size : ℕ} → o ≤ s → (0 < c → size ≡ o / c) → Placement.Kept back size ≡ placementOf (decision gs ks w)
   unfolding indexBack orbitSize
-  tallied-kept {size} h es = rw eb (keeps-placed gs ks w kept refl (es some-lead ∙ ap₂ (λ (i j : ℕ). i / j) eo counted))
+  tallied-kept {size} h es = keeps-placed gs ks w kept eb (es some-lead ∙ ap₂ (λ (i j : ℕ). i / j) eo counted)
     where
       kept : keeps gs ks w ≡ true
       kept = go (keeps gs ks w) refl

@@ -11,8 +11,8 @@ use borrow.Author.Tests.{eqb-true}
 use Rattle.pauli_word.specs.Word.{Word}
 use Rattle.pauli_word.specs.Bytes.{bytesOf}
 use Rattle.action.specs.Permutation.{Generator}
-use Rattle.action.specs.Index.{orderOf, digits, inverse}
-use Rattle.action.specs.Orbit.{least, forward, indexBack, fixes, orbitSize}
+use Rattle.action.specs.Index.{orderOf, digits}
+use Rattle.action.specs.Orbit.{least, indexBack, fixes, orbitSize}
 use Rattle.action.specs.Sector.{numerator, trivial, keeps, breaks, droppedBy, Drops}
 use Rattle.action.proofs.Dropped.{some-breaks, breaks-elim, unbroken-intro, dropped-is, drops-exactly}
 use Rattle.packed.proofs.Shifts.{below-or-not}
@@ -29,10 +29,9 @@ dropped-by true r i j e = let z : _≡_ {A = ℕ} 0 1 = cc in absurd (omega arit
 dropped-by false r i j e = (refl, cc)
 
 module _ (gs : List Generator) (ks : List ℤ) (w : Word) where
-  -- kept, with the inverse of the index that reaches the least word, and the orbit size
-  pub keeps-placed : keeps gs ks w ≡ true → {j s : ℕ} → j ≡ forward gs w → s ≡ orbitSize gs w
-      → Placement.Kept (inverse gs j) s ≡ placementOf (decision gs ks w)
-  unfolding decision indexBack
+  -- kept, with the index back, and the orbit size
+  pub keeps-placed : keeps gs ks w ≡ true → {j s : ℕ} → j ≡ indexBack gs w → s ≡ orbitSize gs w → Placement.Kept j s ≡ placementOf (decision gs ks w)
+  unfolding decision
   keeps-placed k h size = rw (k, h, size)
 
   pub keeps-word : keeps gs ks w ≡ true → bytesOf (least gs w) ≡ rowWord (decision gs ks w)

@@ -2,12 +2,12 @@
 -- row is decided as the call on one word decides it.
 -- What carries it: a row that passes is accepted by the call on one word (`row-passes` of orbit), and a dropped row's zeros are the bytes of a word
 -- without letters, so that the rows are written as words are (`row-bytes`).
-use Prim.Native.Nat.{ℕ, _<_}
+use Prim.Native.Nat.{ℕ, _+_, _-_, _*_, _≤_, _<_}
 use mathlib.Core.Path.{_≡_, refl, sym, ap, ap₂, _∙_}
 use mathlib.Core.Bool.{false}
 use mathlib.Core.List.{List, [], _∷_, _++_, map, map-map}
 use lib.IntN.{ℤ}
-use lib.ListN.{length, getD}
+use lib.ListN.{length, getD, take, drop}
 use borrow.Author.Tests.{eq-eqb, ne-eqb, eqb-true, not-false}
 use lib.Dec.{eqb}
 use Rattle.outcome.specs.declared.Refusal.{Refusal}
@@ -16,8 +16,9 @@ use Rattle.outcome.specs.Outcome.{answer, refusalOf, verdict, Check}
 use Rattle.outcome.proofs.Outcomes.{verdict-fine, call-refused, call-answers, unless-answer}
 use Rattle.pauli_word.specs.Limits.{planeLength, wordLength}
 use Rattle.pauli_word.specs.Word.{Word}
-use Rattle.pauli_word.specs.Bytes.{Bytes, number, planeOf, encode, bytesOf}
+use Rattle.pauli_word.specs.Bytes.{Bytes, number, planeOf, encode, bytesOf, inFull}
 use Rattle.pauli_word.proofs.Words.{encode-length}
+use Rattle.pauli_word.proofs.Forms.{full-same}
 use Rattle.action.specs.Lists.{below}
 use Rattle.action.specs.Permutation.{Generator}
 use Rattle.action.proofs.Below.{map-below-at, map-below-length}
@@ -28,6 +29,7 @@ use Rattle.group.specs.Calls.{valueChecks}
 use Rattle.group.proofs.Accepted.{value-fine}
 use Rattle.row_lists.specs.Rows.{rowBy, rowSize, rowsInFull, joinRows}
 use Rattle.row_lists.specs.Checks.{wordListChecks, AcceptedRows}
+use Rattle.row_lists.proofs.Rows.{part-by, length-by}
 use Rattle.row_lists.proofs.ListChecks.{Agreeing}
 use Rattle.row_lists.proofs.WordLists.{word-lists-agree, word-lists-accepted}
 use Rattle.orbit.specs.Words.{rowLetters}
@@ -36,6 +38,19 @@ use Rattle.momentum.specs.Calls.{modeCount, Decision, kept, dropped, Row
 use Rattle.momentum.specs.Parts.{placementOf, indexIn, sizeIn}
 use Rattle.momentum.specs.Words.{sectorWordsChecks, decidedRows, sectorWordsOutcome, rowIndex, rowOrbit, sectorWords, sectorIndices, sectorSizes}
 use Rattle.momentum.proofs.Outcomes.{sector-decision}
+
+-- ---- the rows that are read
+
+-- a row in full is inside the list, and is the part where it stands
+module _ {size : ℕ} (e : size ≡ wordLength) (words : List ℕ) (i : ℕ) (inside : size * i + size ≤ length words) where
+  pub row-within : wordLength * i + wordLength ≤ length words
+  row-within = rw (← e) inside
+
+  pub row-stands : take (wordLength * i + wordLength - wordLength * i) (drop (wordLength * i) words) ≡ inFull (rowBy size words i)
+  row-stands =
+      part-by wordLength words i
+      ∙ sym (full-same (rowBy wordLength words i) (length-by wordLength words i row-within))
+      ∙ ap (λ (k : ℕ). inFull (rowBy k words i)) (sym e)
 
 -- ---- the rows that are written
 

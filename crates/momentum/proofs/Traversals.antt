@@ -20,7 +20,7 @@ use Rattle.action.specs.Lists.{from, below, Member, count, every}
 use Rattle.action.specs.Permutation.{Generator, Valid}
 use Rattle.action.specs.Index.{orderOf, inverse}
 use Rattle.action.specs.Orbit.{reach, least, forward, fixes, fixing, indexBack, orbitSize}
-use Rattle.action.specs.Sector.{trivial, keeps, breaks}
+use Rattle.action.specs.Sector.{trivial, keeps, breaks, droppedBy}
 use Rattle.action.proofs.Lists.{member-below, length-below, of-member-append, every-intro, every-elim, count-select, count-append}
 use Rattle.action.proofs.Dropped.{breaks-test, keeps-broken, dropped-is}
 use Rattle.action.proofs.Reach.{reach-length}
@@ -204,3 +204,19 @@ module _ (d : Decision Row) where
       go : (x : Decision Row) → placementOf x ≡ Placement.Kept i size → (r : Row) × (x ≡ kept r) × (r .index ≡ i) × (r .size ≡ size)
       go (kept r) h = (r, refl, cc, cc)
       go (dropped j) h = let z : _≡_ {A = ℕ} 0 1 = cc in absurd (omega arith)
+
+  -- beside a dropped word stand zeros
+  pub placed-zeros : {i : ℕ} → placementOf d ≡ Placement.Dropped i → noWord ≡ rowWord d
+  placed-zeros e = ap rowWord (sym (placed-dropped e))
+
+-- beside a kept word stands the least word
+pub placed-least : (gs : List Generator) (ks : List ℤ) (w : Word) {i size : ℕ} → placementOf (decision gs ks w) ≡ Placement.Kept i size
+    → bytesOf (least gs w) ≡ rowWord (decision gs ks w)
+unfolding decision
+placed-least gs ks w {i} {size} =
+    go (keeps gs ks w) (record { word = least gs w; index = indexBack gs w; size = orbitSize gs w }) (droppedBy gs ks w) refl
+  where
+    go : (b : Bool) (r : Row) (j : ℕ) → r .word ≡ least gs w → placementOf (cond b (kept r) (dropped j)) ≡ Placement.Kept i size
+        → bytesOf (least gs w) ≡ rowWord (cond b (kept r) (dropped j))
+    go true r j h e = ap bytesOf (sym h)
+    go false r j h e = let z : _≡_ {A = ℕ} 0 1 = cc in absurd (omega arith)

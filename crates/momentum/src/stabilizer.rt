@@ -1,22 +1,27 @@
-// The traversal behind a sector's decision. Whoever calls a function here owes its `requires`.
+// A sector's decision, by what the path that a group takes says of the indices that fix a word, or by a traversal. Whoever calls a function here owes its `requires`.
 ghost use mathlib.Core.Path.{_≡_};
 ghost use Prim.Native.Nat.{_*_, _≤_, _<_};
 ghost use lib.ListN.{length};
+ghost use Rattle.pauli_word.specs.Limits.{wordLength};
+ghost use Rattle.pauli_word.specs.Word.{Word};
 ghost use Rattle.pauli_word.specs.Bytes.{AcceptedWord, lettersIn, bytesOf};
-ghost use Rattle.action.specs.Index.{orderOf, inverse};
-ghost use Rattle.action.specs.Orbit.{reach};
+ghost use Rattle.action.specs.Index.{orderOf};
+ghost use Rattle.action.specs.Orbit.{reach, least, indexBack};
 ghost use Rattle.action.specs.Sector.{modulus as modulusOf};
 ghost use Rattle.elements.specs.HeldGroup.{generatorsIn, Tables};
-ghost use Rattle.packed.specs.Packed.{wordBits, planeWords};
-ghost use Rattle.paths.specs.Paths.{Ready};
+ghost use Rattle.packed.specs.Packed.{wordBits, planeWords, bitOf};
+ghost use Rattle.grid.specs.Candidates.{Leading};
+ghost use Rattle.paths.specs.Paths.{Ready, Taken, wordsOf, ByStep};
 ghost use mathlib.Core.Bool.{true};
 ghost use Rattle.orbit.specs.Calls.{noWord};
 ghost use Rattle.momentum.specs.Parts.{testOf, placementOf};
 ghost use Rattle.momentum.specs.Calls.{decision, rowWord};
 use crate::inner::Placed;
 use crate::inner::Placement;
+use crate::leading;
 use crate::phase;
 use paths::least::Fixing;
+use paths::plan::Path;
 use pauli_word::Ordering;
 use pauli_word::WORD_BYTES;
 use permutation::MAX_GENERATORS;
@@ -184,29 +189,93 @@ pub fn traverse(
     )
 }
 
-// A kept word: its least word, the index that leads back from there, and the orbit size.
-pub fn kept(
+// Zeros over a list: the word that the index drops has none.
+pub fn cleared(index: usize, out: &mut [u8]) -> Placement
+    requires { ⌜ length (now out) ≡ wordLength ⌝ }
+    ensures answer { λ r. ⌜ r ≡ Placement.Dropped index ⌝ }
+    ensures word { λ _. ⌜ now (out .exit) ≡ noWord ⌝ }
+{
+    row_lists::zeros::bytes_from(out, 0);
+    Placement::Dropped(index)
+}
+
+// Where the multiples of a step fix a word, it is kept just if the step has numerator 0, and else dropped by the step. `out` holds the least word, to which
+// `back` is the index back.
+pub fn placed_by_step(
     targets: &[u16],
     orders: &[u32],
     generators: usize,
     sites: usize,
-    index: usize,
-    size: usize,
-    word: [u8; WORD_BYTES],
-) -> Placed
+    m: usize,
+    modes: &[i32],
+    step: usize,
+    back: usize,
+    out: &mut [u8],
+) -> Placement
     requires { ⌜ Tables generators sites (now targets) (now orders) ⌝ }
-    ensures { λ r. ⌜ (r .answer ≡ Placement.Kept (inverse (generatorsIn generators sites (now (targets .entry)) (now (orders .entry))) index) size) × (r .word ≡ word) ⌝ }
+    requires { ⌜ m ≡ modulusOf (generatorsIn generators sites (now targets) (now orders)) ⌝ }
+    requires { ⌜ length (now modes) ≡ generators ⌝ }
+    requires { ⌜ length (now out) ≡ wordLength ⌝ }
+    ensures answer { λ r. ⌜ ((w : Word) → ByStep step (generatorsIn generators sites (now (targets .entry)) (now (orders .entry))) w
+        → back ≡ indexBack (generatorsIn generators sites (now (targets .entry)) (now (orders .entry))) w
+        → r ≡ placementOf (decision (generatorsIn generators sites (now (targets .entry)) (now (orders .entry))) (now (modes .entry)) w)) ⌝ }
+    ensures word { λ _. ⌜ ((w : Word) → ByStep step (generatorsIn generators sites (now (targets .entry)) (now (orders .entry))) w
+        → now (out .entry) ≡ bytesOf (least (generatorsIn generators sites (now (targets .entry)) (now (orders .entry))) w)
+        → now (out .exit) ≡ rowWord (decision (generatorsIn generators sites (now (targets .entry)) (now (orders .entry))) (now (modes .entry)) w)) ⌝ }
 {
-    let back = elements::index::invert(targets, orders, generators, sites, index);
-    Placed {
-        answer: Placement::Kept(back, size),
-        word,
+    if phase::trivial(targets, orders, generators, sites, m, modes, step) {
+        return Placement::Kept(back, step);
+    }
+    cleared(step, out)
+}
+
+// What modes make of a word by the candidates that lead on a grid. `out` holds the least word, to which `back` is the index back.
+pub fn placed_by_set(
+    targets: &[u16],
+    orders: &[u32],
+    generators: usize,
+    sites: usize,
+    order: usize,
+    m: usize,
+    modes: &[i32],
+    left: &[u64],
+    back: usize,
+    out: &mut [u8],
+) -> Placement
+    requires { ⌜ Tables generators sites (now targets) (now orders) ⌝ }
+    requires { ⌜ order ≡ orderOf (generatorsIn generators sites (now targets) (now orders)) ⌝ }
+    requires { ⌜ m ≡ modulusOf (generatorsIn generators sites (now targets) (now orders)) ⌝ }
+    requires { ⌜ length (now modes) ≡ generators ⌝ }
+    requires { ⌜ length (now out) ≡ wordLength ⌝ }
+    ensures answer { λ r. ⌜ ((w : Word) → length w ≡ sites
+        → Leading (generatorsIn generators sites (now (targets .entry)) (now (orders .entry))) w (bitOf (now (left .entry)))
+        → back ≡ indexBack (generatorsIn generators sites (now (targets .entry)) (now (orders .entry))) w
+        → r ≡ placementOf (decision (generatorsIn generators sites (now (targets .entry)) (now (orders .entry))) (now (modes .entry)) w)) ⌝ }
+    ensures word { λ _. ⌜ ((w : Word) → length w ≡ sites
+        → Leading (generatorsIn generators sites (now (targets .entry)) (now (orders .entry))) w (bitOf (now (left .entry)))
+        → back ≡ indexBack (generatorsIn generators sites (now (targets .entry)) (now (orders .entry))) w
+        → now (out .entry) ≡ bytesOf (least (generatorsIn generators sites (now (targets .entry)) (now (orders .entry))) w)
+        → now (out .exit) ≡ rowWord (decision (generatorsIn generators sites (now (targets .entry)) (now (orders .entry))) (now (modes .entry)) w)) ⌝ }
+{
+    let answer = leading::placed_by_leading(
+        targets,
+        orders,
+        generators,
+        sites,
+        order,
+        m,
+        modes,
+        left,
+        back,
+    );
+    match answer {
+        Placement::Kept(index, size) => Placement::Kept(index, size),
+        Placement::Dropped(index) => cleared(index, out),
     }
 }
 
-// The decision, by the path that the group takes: a word that index 0 alone fixes is kept, one that the multiples of a step fix is kept just if the
-// step has numerator 0, and else dropped by the step, and all others are traversed.
-pub fn placed(
+// The traversal, with its word into a list.
+pub fn placed_by_traversal(
     targets: &[u16],
     orders: &[u32],
     generators: usize,
@@ -215,35 +284,102 @@ pub fn placed(
     m: usize,
     modes: &[i32],
     word: &[u8],
-) -> Placed
+    out: &mut [u8],
+) -> Placement
     requires { ⌜ Tables generators sites (now targets) (now orders) ⌝ }
     requires { ⌜ order ≡ orderOf (generatorsIn generators sites (now targets) (now orders)) ⌝ }
     requires { ⌜ m ≡ modulusOf (generatorsIn generators sites (now targets) (now orders)) ⌝ }
     requires { ⌜ length (now modes) ≡ generators ⌝ }
     requires { ⌜ AcceptedWord sites (now word) ⌝ }
-    ensures answer { λ r. ⌜ r .answer ≡ placementOf (decision (generatorsIn generators sites (now (targets .entry)) (now (orders .entry))) (now (modes .entry)) (lettersIn sites (now (word .entry)))) ⌝ }
-    ensures word { λ r. ⌜ r .word ≡ rowWord (decision (generatorsIn generators sites (now (targets .entry)) (now (orders .entry))) (now (modes .entry)) (lettersIn sites (now (word .entry)))) ⌝ }
+    requires { ⌜ length (now out) ≡ wordLength ⌝ }
+    ensures answer { λ r. ⌜ r ≡ placementOf (decision (generatorsIn generators sites (now (targets .entry)) (now (orders .entry))) (now (modes .entry)) (lettersIn sites (now (word .entry)))) ⌝ }
+    ensures word { λ _. ⌜ now (out .exit) ≡ rowWord (decision (generatorsIn generators sites (now (targets .entry)) (now (orders .entry))) (now (modes .entry)) (lettersIn sites (now (word .entry)))) ⌝ }
 {
-    let found = paths::least::least(targets, orders, generators, sites, order, word);
-    let least = found.word;
-    let fixing = found.fixing;
+    let placed = traverse(targets, orders, generators, sites, order, m, modes, word);
+    let answer = placed.answer;
+    let found = placed.word;
+    pauli_word::inner::copy(&found, out);
+    answer
+}
+
+// The decision, by the path that the group takes, and the least word into a list, or zeros where the word is dropped: a word that index 0 alone fixes is
+// kept, and what is known of the other fixing indices decides all others; where nothing is, the traversal does.
+pub fn placed_into(
+    path: Path,
+    targets: &[u16],
+    orders: &[u32],
+    generators: usize,
+    sites: usize,
+    strides: &[usize],
+    rests: &[usize],
+    masks: &[u64],
+    order: usize,
+    m: usize,
+    modes: &[i32],
+    word: &[u8],
+    left: &mut [u64],
+    out: &mut [u8],
+) -> Placement
+    requires { ⌜ Tables generators sites (now targets) (now orders) ⌝ }
+    requires { ⌜ Taken path generators sites order (now targets) (now orders) (now strides) (now rests) (now masks) ⌝ }
+    requires { ⌜ order ≡ orderOf (generatorsIn generators sites (now targets) (now orders)) ⌝ }
+    requires { ⌜ m ≡ modulusOf (generatorsIn generators sites (now targets) (now orders)) ⌝ }
+    requires { ⌜ length (now modes) ≡ generators ⌝ }
+    requires { ⌜ AcceptedWord sites (now word) ⌝ }
+    requires { ⌜ (length (now left) ≡ wordsOf path) × (length (now out) ≡ wordLength) ⌝ }
+    ensures answer { λ r. ⌜ r ≡ placementOf (decision (generatorsIn generators sites (now (targets .entry)) (now (orders .entry))) (now (modes .entry)) (lettersIn sites (now (word .entry)))) ⌝ }
+    ensures word { λ _. ⌜ now (out .exit) ≡ rowWord (decision (generatorsIn generators sites (now (targets .entry)) (now (orders .entry))) (now (modes .entry)) (lettersIn sites (now (word .entry)))) ⌝ }
+{
+    let led = paths::least::least_into(
+        path,
+        targets,
+        orders,
+        generators,
+        sites,
+        strides,
+        rests,
+        masks,
+        order,
+        word,
+        left,
+        out,
+    );
+    let fixing = led.fixing;
     match fixing {
-        Fixing::Many => traverse(targets, orders, generators, sites, order, m, modes, word),
-        Fixing::Free => kept(
+        Fixing::Free => Placement::Kept(led.index, order),
+        Fixing::Multiples(step) => placed_by_step(
             targets,
             orders,
             generators,
             sites,
-            found.index,
-            order,
-            least,
+            m,
+            modes,
+            step,
+            led.index,
+            out,
         ),
-        Fixing::Multiples(step) => {
-            if phase::trivial(targets, orders, generators, sites, m, modes, step) {
-                kept(targets, orders, generators, sites, found.index, step, least)
-            } else {
-                dropped(step)
-            }
-        }
+        Fixing::Leading => placed_by_set(
+            targets,
+            orders,
+            generators,
+            sites,
+            order,
+            m,
+            modes,
+            left,
+            led.index,
+            out,
+        ),
+        Fixing::Many => placed_by_traversal(
+            targets,
+            orders,
+            generators,
+            sites,
+            order,
+            m,
+            modes,
+            word,
+            out,
+        ),
     }
 }

@@ -25,6 +25,10 @@ planeWords = planeLength / 8
 abbrev pub paddedWords : ℕ
 paddedWords = 3 * planeWords + 1
 
+-- planes of so few machine words have room of their own where they are moved
+abbrev pub fewWords : ℕ
+fewWords = 8
+
 -- bit k of a number
 abbrev pub bitAt : ℕ → ℕ → Bool
 bitAt x k = odd (x / 2 ^ k)

@@ -5,12 +5,16 @@ ghost use mathlib.Core.Bool.{_&&_, _||_, cond, not};
 ghost use Prim.Native.Nat.{ℕ, _+_, _-_, _*_, _/_, _%_, _<_, _≤_, min};
 ghost use lib.Dec.{ltb};
 ghost use lib.ListN.{length, getD};
-ghost use Rattle.packed.specs.Packed.{wordBits, planeWords, paddedWords, bitAt, bitOf, Clear, rotated, keepAt, Mask};
+ghost use Rattle.packed.specs.Packed.{wordBits, planeWords, fewWords, bitAt, bitOf, Clear, rotated, keepAt, Mask};
 use crate::PLANE_WORDS;
 use crate::WORD_BITS;
 
 // A plane with as many words of zeros before it and after it as a plane has at most, and one more.
 const PADDED_WORDS: usize = 3 * PLANE_WORDS + 1;
+
+// Planes of so few words have room of their own, which takes less to clear.
+const FEW_WORDS: usize = 8;
+const FEW_PADDED: usize = 3 * FEW_WORDS + 1;
 
 // A word with every bit set.
 const FULL_WORD: u64 = 0xffff_ffff_ffff_ffff;
@@ -151,31 +155,49 @@ pub fn window(plane: &[u64], p: usize) -> u64
     (plane[at] >> bits) | ((plane[at + 1] << 1) << (WORD_BITS - 1 - bits))
 }
 
-// Copies the words of a plane over a list of zeros, from place PLANE_WORDS on.
-pub fn pad_words(plane: &[u64], pad: &mut [u64])
-    requires { ⌜ (planeWords + length (now plane) ≤ length (now pad)) × ((k : ℕ) → getD (now pad) k 0 ≡ 0) ⌝ }
-    ensures before { λ _. ⌜ ((k : ℕ) → k < planeWords → getD (now (pad .exit)) k 0 ≡ 0) ⌝ }
-    ensures words { λ _. ⌜ ((k : ℕ) → getD (now (pad .exit)) (planeWords + k) 0 ≡ getD (now (plane .entry)) k 0) ⌝ }
+// Copies the words of a plane over a list of zeros, behind `before` of them.
+pub fn pad_words(plane: &[u64], before: usize, pad: &mut [u64])
+    requires { ⌜ (before + length (now plane) ≤ length (now pad)) × ((k : ℕ) → getD (now pad) k 0 ≡ 0) ⌝ }
+    ensures before { λ _. ⌜ ((k : ℕ) → k < before → getD (now (pad .exit)) k 0 ≡ 0) ⌝ }
+    ensures words { λ _. ⌜ ((k : ℕ) → getD (now (pad .exit)) (before + k) 0 ≡ getD (now (plane .entry)) k 0) ⌝ }
 {
     let mut i = 0;
     while i < plane.len() {
-        pad[PLANE_WORDS + i] = plane[i];
+        pad[before + i] = plane[i];
         i += 1;
     }
 }
 
-// Word by word, each bit of a padded plane from s below it where keep has it, and from t above it elsewhere.
-pub fn turn_padded(pad: &[u64], keep: &[u64], s: usize, t: usize, plane: &mut [u64])
-    requires { ⌜ (length (now plane) ≤ planeWords) × (length (now keep) ≡ length (now plane)) × (length (now pad) ≡ paddedWords) ⌝ }
-    requires { ⌜ (s ≤ wordBits * planeWords) × (t ≤ wordBits * planeWords) ⌝ }
-    ensures { λ _. ⌜ ((q : ℕ) → q < wordBits * length (now (plane .entry)) → bitOf (now (plane .exit)) q ≡ cond (bitOf (now (keep .entry)) q) (bitOf (now (pad .entry)) (wordBits * planeWords + q - s)) (bitOf (now (pad .entry)) (wordBits * planeWords + q + t))) ⌝ }
+// Word by word, each bit of a plane that stands behind `before` words of zeros, from s below it where keep has it, and from t above it elsewhere.
+pub fn turn_padded(
+    pad: &[u64],
+    before: usize,
+    keep: &[u64],
+    s: usize,
+    t: usize,
+    plane: &mut [u64],
+)
+    requires { ⌜ (length (now plane) ≤ before) × (length (now keep) ≡ length (now plane)) × (length (now pad) ≡ 3 * before + 1) × (before ≤ planeWords) ⌝ }
+    requires { ⌜ (s ≤ wordBits * before) × (t ≤ wordBits * before) ⌝ }
+    ensures { λ _. ⌜ ((q : ℕ) → q < wordBits * length (now (plane .entry)) → bitOf (now (plane .exit)) q ≡ cond (bitOf (now (keep .entry)) q) (bitOf (now (pad .entry)) (wordBits * before + q - s)) (bitOf (now (pad .entry)) (wordBits * before + q + t))) ⌝ }
 {
     let mut i = 0;
     while i < plane.len() {
-        let at = WORD_BITS * (PLANE_WORDS + i);
+        let at = WORD_BITS * (before + i);
         plane[i] = pick(keep[i], window(pad, at - s), window(pad, at + t));
         i += 1;
     }
+}
+
+// In a plane of few words, each bit from s below it where keep has it, and from t above it elsewhere.
+pub fn turn_few(plane: &mut [u64], keep: &[u64], s: usize, t: usize)
+    requires { ⌜ (length (now plane) ≤ fewWords) × (length (now keep) ≡ length (now plane)) ⌝ }
+    requires { ⌜ (s ≤ wordBits * fewWords) × (t ≤ wordBits * fewWords) ⌝ }
+    ensures { λ _. ⌜ ((q : ℕ) → q < wordBits * length (now (plane .entry)) → bitOf (now (plane .exit)) q ≡ cond (bitOf (now (keep .entry)) q) (not (ltb q s) && bitOf (now (plane .entry)) (q - s)) (bitOf (now (plane .entry)) (q + t))) ⌝ }
+{
+    let mut pad = [0u64; FEW_PADDED];
+    pad_words(plane, FEW_WORDS, &mut pad);
+    turn_padded(&pad, FEW_WORDS, keep, s, t, plane);
 }
 
 // In a plane of any number of words, each bit from s below it where keep has it, and from t above it elsewhere.
@@ -185,8 +207,8 @@ pub fn turn_words(plane: &mut [u64], keep: &[u64], s: usize, t: usize)
     ensures { λ _. ⌜ ((q : ℕ) → q < wordBits * length (now (plane .entry)) → bitOf (now (plane .exit)) q ≡ cond (bitOf (now (keep .entry)) q) (not (ltb q s) && bitOf (now (plane .entry)) (q - s)) (bitOf (now (plane .entry)) (q + t))) ⌝ }
 {
     let mut pad = [0u64; PADDED_WORDS];
-    pad_words(plane, &mut pad);
-    turn_padded(&pad, keep, s, t, plane);
+    pad_words(plane, PLANE_WORDS, &mut pad);
+    turn_padded(&pad, PLANE_WORDS, keep, s, t, plane);
 }
 
 // Rotates the bits of a plane by stride inside blocks, by the mask of `keep_mask`: what it leaves out of the sites is what goes round.
@@ -202,6 +224,10 @@ pub fn rotate_kept(plane: &mut [u64], keep: &[u64], stride: usize, block: usize,
     }
     if plane.len() == 1 {
         turn_word(plane, keep, stride, block - stride);
+        return;
+    }
+    if plane.len() <= FEW_WORDS {
+        turn_few(plane, keep, stride, block - stride);
         return;
     }
     turn_words(plane, keep, stride, block - stride);

@@ -5,7 +5,7 @@ use mathlib.Core.Logic.{⊎-elim}
 use native.Mathlib.Omega.{arith}
 use Rattle.elements.specs.HeldGroup.{generatorsIn}
 use Rattle.packed.specs.Packed.{bitOf}
-use Rattle.grid.proofs.Settling.{Smallest, smallest-start, smallest-out, smallest-in, smallest-forward}
+use Rattle.grid.proofs.Settling.{Smallest, smallest-start, smallest-out, smallest-in, smallest-forward, smallest-none}
 use Rattle.grid.proofs.settle.forward_of.Statement.{statement}
 use Rattle.grid.proofs.settle.forward_of.Tie as tie
 
@@ -18,33 +18,38 @@ abbrev μ-loop : tie.MeasureT-loop
 loop-holds : tie.Need-loop-holds Inv-loop μ-loop
 loop-holds c = (omega arith, smallest-start (c .before .before .before .pre .1))
 
+returns : tie.Need-returns Inv-loop μ-loop
+returns c =
+    let s = c .before .before .before .before .before .before in
+    λ w long leads. smallest-none (s .pre .0 .valid) long leads (c .before .before .loop .inv .1) (c .if1 .taken)
+
 holds-requires : tie.Need-holds-requires Inv-loop μ-loop
 holds-requires c κs = tt
 
 invert-requires : tie.Need-invert-requires Inv-loop μ-loop
-invert-requires c κs = c .before .before .before .before .before .before .before .pre .0
+invert-requires c κs = c .before .before .before .before .before .before .before .before .pre .0
 
 smaller-requires : tie.Need-smaller-requires Inv-loop μ-loop
 smaller-requires c κs = tt
 
 add-k : tie.Need-add-k Inv-loop μ-loop
-add-k c = omega (arith, c .before .before .loop-test .taken, c .before .before .before .before .before .before .before .fits .order)
+add-k c = omega (arith, c .before .before .before .loop-test .taken, c .before .before .before .before .before .before .before .before .fits .order)
 
 loop-less : tie.Need-loop-less Inv-loop μ-loop
-loop-less c = omega (arith, c .before .before .loop-test .taken)
+loop-less c = omega (arith, c .before .before .before .loop-test .taken)
 
 loop-again : tie.Need-loop-again Inv-loop μ-loop
 loop-again c =
-    let l = c .before .before .before .loop in
+    let l = c .before .before .before .before .loop in
     let own = sym (c .before .holds .ensures) in
-    (omega (arith, c .before .before .loop-test .taken),
+    (omega (arith, c .before .before .before .loop-test .taken),
     ⊎-elim
     (λ w. smallest-in (l .inv .1) (own ∙ w .0 .taken) (w .3 ∙ w .2 .ensures ∙ ap (λ (i : ℕ). min i (l .best)) (w .1 .ensures)))
     (λ w. rw (w .1) (smallest-out (l .inv .1) (own ∙ w .0 .left)))
-    (c .if1 .came))
+    (c .if2 .came))
 
-returns : tie.Need-returns Inv-loop μ-loop
-returns c =
+returns-2 : tie.Need-returns-2 Inv-loop μ-loop
+returns-2 c =
     let s = c .before .before .before .before .before in
     let l = c .before .loop in
     λ w long leads. smallest-forward (s .pre .0 .valid) long leads (omega (arith, s .pre .1, c .loop-test .left)) (l .inv .1)
@@ -56,10 +61,11 @@ forward-of-spec =
     Inv-loop
     μ-loop
     loop-holds
+    returns
     holds-requires
     invert-requires
     smaller-requires
     add-k
     loop-less
     loop-again
-    returns)
+    returns-2)

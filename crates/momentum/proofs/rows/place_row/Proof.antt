@@ -1,39 +1,112 @@
--- `rows::place_row` meets its contract: what `inner::placement_of` finds fills the row.
-use mathlib.Core.Path.{sym, ap, _∙_}
+-- `rows::place_row` meets its contract: a row in full is the word itself (`row-stands`), and one of the old form is widened.
+use mathlib.Core.Path.{_≡_, sym, ap, subst, _∙_}
+use mathlib.Core.List.{List}
+use Prim.Native.Nat.{ℕ}
+use native.Mathlib.Omega.{arith}
 use denote.Ref.{now}
-use lib.ListN.{length}
-use borrow.Author.Needs.{needs}
-use Rattle.pauli_word.specs.Bytes.{lettersIn}
+use Rattle.pauli_word.specs.Bytes.{AcceptedWord, lettersIn}
 use Rattle.elements.specs.HeldGroup.{generatorsIn}
-use Rattle.momentum.specs.Calls.{decision}
-use Rattle.momentum.proofs.RowCalls.{row-long}
+use Rattle.momentum.specs.Calls.{Decision, Row, decision, rowWord}
+use Rattle.momentum.specs.Parts.{placementOf}
+use Rattle.momentum.proofs.RowCalls.{row-within, row-stands}
+use borrow.Author.Needs.{needs}
 use Rattle.momentum.proofs.rows.place_row.Statement.{statement}
 use Rattle.momentum.proofs.rows.place_row.Tie as tie
 
-placement-of-requires : tie.Need-placement-of-requires
-placement-of-requires c κs = search needs
-
-slice-aggregate-copy : tie.Need-slice-aggregate-copy
-slice-aggregate-copy c = search needs
-
-copy-requires : tie.Need-copy-requires
-copy-requires c κs =
-    let f = c .before .before .before in
-    let s = f .before .before .before .before .before in
+-- the decision for a word
+abbrev decidedOf : (s : tie.Start) → List ℕ → Decision Row
+decidedOf s bytes =
     let a = s .args in
-    let decided =
-    decision (generatorsIn (a .generators) (a .sites) (now (a .targets)) (now (a .orders))) (now (a .modes)) (lettersIn (a .sites) (now (a .word)))
-    in
-    ap length (f .placement-of .ensures .1) ∙ row-long decided ∙ sym (s .pre .1 .1 .1)
+    decision (generatorsIn (a .generators) (a .sites) (now (a .targets)) (now (a .orders))) (now (a .modes)) (lettersIn (a .sites) bytes)
+
+mul-at : tie.Need-mul-at
+mul-at c =
+    let s = c .before .before .before .before .before .before .before .before .before in
+    let inside = row-within (c .if1 .taken) (now (s .args .words)) (s .args .i) (s .pre .1 .1 .1 .1 .1 .0 .1) in
+    omega (arith, inside, s .good .1 .1 .1 .1 .1 .1 .1 .1 .1 .1 .1 .0)
+
+add-end : tie.Need-add-end
+add-end c =
+    let s = c .before .before .before .before .before .before .before .before .before in
+    let inside = row-within (c .if1 .taken) (now (s .args .words)) (s .args .i) (s .pre .1 .1 .1 .1 .1 .0 .1) in
+    omega (arith, inside, s .good .1 .1 .1 .1 .1 .1 .1 .1 .1 .1 .1 .0)
+
+sub-placement-by : tie.Need-sub-placement-by
+sub-placement-by c = search needs
+
+part-placement-by-start : tie.Need-part-placement-by-start
+part-placement-by-start c = search needs
+
+part-placement-by-end : tie.Need-part-placement-by-end
+part-placement-by-end c =
+    let s = c .before .before .before .before .before .before .before .before .before in
+    let inside = row-within (c .if1 .taken) (now (s .args .words)) (s .args .i) (s .pre .1 .1 .1 .1 .1 .0 .1) in
+    omega (arith, inside, s .good .1 .1 .1 .1 .1 .1 .1 .1 .1 .1 .1 .0)
+
+placement-by-requires : tie.Need-placement-by-requires
+placement-by-requires c κs =
+    let s = c .before .before .before .before .before .before .before .before .before .before .before .before in
+    let p = s .pre in
+    let same = row-stands (c .before .before .before .if1 .taken) (now (s .args .words)) (s .args .i) (p .1 .1 .1 .1 .1 .0 .1) in
+    (p .0, (p .1 .0, (p .1 .1 .0, (p .1 .1 .1 .0, (p .1 .1 .1 .1 .0, (subst (AcceptedWord (s .args .sites)) (sym same) (p .1 .1 .1 .1 .1 .1 .0), p .1 .1 .1 .1 .1 .1 .1))))))
 
 same-length : tie.Need-same-length
 same-length c = search needs
 
+same-length-2 : tie.Need-same-length-2
+same-length-2 c = search needs
+
 returns : tie.Need-returns
 returns c =
-    let found = c .before .before .before .before .before .before .placement-of .ensures in
-    (found .0, c .before .before .copy .ensures ∙ found .1)
+    let s = c .before .before .before .before .before .before .before .before .before .before .before .before .before .before .before .before .before in
+    let decided = decidedOf s in
+    let found = c .before .before .before .before .placement-by .ensures in
+    let same = row-stands (c .before .before .before .before .before .before .before .before .if1 .taken) (now (s .args .words)) (s .args .i) (s .pre .1 .1 .1 .1 .1 .0 .1) in
+    (found .0 ∙ ap (λ (bytes : List ℕ). placementOf (decided bytes)) same, found .1 ∙ ap (λ (bytes : List ℕ). rowWord (decided bytes)) same)
+
+row-in-full-requires : tie.Need-row-in-full-requires
+row-in-full-requires c κs = search needs
+
+slice-aggregate-placement-by : tie.Need-slice-aggregate-placement-by
+slice-aggregate-placement-by c = search needs
+
+placement-by-requires-2 : tie.Need-placement-by-requires-2
+placement-by-requires-2 c κs =
+    let s = c .before .before .before .before .before .before .before .before .before .before .before .before .before in
+    let p = s .pre in
+    let same = c .before .before .before .row-in-full .ensures in
+    (p .0, (p .1 .0, (p .1 .1 .0, (p .1 .1 .1 .0, (p .1 .1 .1 .1 .0, (subst (AcceptedWord (s .args .sites)) (sym same) (p .1 .1 .1 .1 .1 .1 .0), p .1 .1 .1 .1 .1 .1 .1))))))
+
+same-length-3 : tie.Need-same-length-3
+same-length-3 c = search needs
+
+same-length-4 : tie.Need-same-length-4
+same-length-4 c = search needs
+
+returns-2 : tie.Need-returns-2
+returns-2 c =
+    let s = c .before .before .before .before .before .before .before .before .before .before .before .before .before .before .before .before .before .before in
+    let decided = decidedOf s in
+    let found = c .before .before .before .before .placement-by2 .ensures in
+    let same = c .before .before .before .before .before .before .before .before .row-in-full .ensures in
+    (found .0 ∙ ap (λ (bytes : List ℕ). placementOf (decided bytes)) same, found .1 ∙ ap (λ (bytes : List ℕ). rowWord (decided bytes)) same)
 
 pub place-row-spec : {M : Type 1} → statement M
 place-row-spec =
-    tie.close (tie.spec placement-of-requires slice-aggregate-copy copy-requires same-length returns)
+    tie.close
+    (tie.spec
+    mul-at
+    add-end
+    sub-placement-by
+    part-placement-by-start
+    part-placement-by-end
+    placement-by-requires
+    same-length
+    same-length-2
+    returns
+    row-in-full-requires
+    slice-aggregate-placement-by
+    placement-by-requires-2
+    same-length-3
+    same-length-4
+    returns-2)

@@ -4,19 +4,18 @@ use mathlib.Core.Path.{_≡_, refl, _∙_}
 use native.Mathlib.Omega.{arith}
 use denote.Ref.{now}
 use lib.ListN.{length, getD, length-set}
-use Rattle.packed.specs.Packed.{planeWords}
 use Rattle.packed.proofs.Shifts.{Padded, padded-next, padded-all}
 use Rattle.packed.proofs.shift.pad_words.Statement.{statement}
 use Rattle.packed.proofs.shift.pad_words.Tie as tie
 
 abbrev Inv-loop : tie.InvT-loop
-Inv-loop plane pad₀ i₀ pad i = (i ≤ length plane) × (length pad ≡ length pad₀) × Padded planeWords i plane pad
+Inv-loop plane before pad₀ i₀ pad i = (i ≤ length plane) × (length pad ≡ length pad₀) × Padded before i plane pad
 
 abbrev μ-loop : tie.MeasureT-loop
-μ-loop plane pad₀ i₀ pad i = length plane - i
+μ-loop plane before pad₀ i₀ pad i = length plane - i
 
 loop-holds : tie.Need-loop-holds Inv-loop μ-loop
-loop-holds c = (omega arith, refl, (λ k h. c .pre .1 k, λ k h. absurd (omega arith), λ k h. c .pre .1 (planeWords + k)))
+loop-holds c = (omega arith, refl, (λ k h. c .pre .1 k, λ k h. absurd (omega arith), λ k h. c .pre .1 (c .args .before + k)))
 
 mul-pad : tie.Need-mul-pad Inv-loop μ-loop
 mul-pad c = omega arith
@@ -45,8 +44,8 @@ loop-again c =
     let l = c .before .before .loop in
     let plane = now (s .args .plane) in (
       omega arith,
-      length-set (l .pad) (planeWords + l .i) (getD plane (l .i) 0) ∙ l .inv .1,
-      padded-next planeWords plane (l .pad) (l .i) (omega (arith, s .pre .0, l .inv .1)) (l .inv .2),
+      length-set (l .pad) (s .args .before + l .i) (getD plane (l .i) 0) ∙ l .inv .1,
+      padded-next (s .args .before) plane (l .pad) (l .i) (omega (arith, s .pre .0, l .inv .1)) (l .inv .2),
     )
 
 same-length : tie.Need-same-length Inv-loop μ-loop
@@ -55,7 +54,7 @@ same-length c = c .before .loop .inv .1
 returns : tie.Need-returns Inv-loop μ-loop
 returns c =
     let l = c .before .loop in
-    (l .inv .2 .0, padded-all planeWords (now (c .before .before .args .plane)) (l .pad) (l .i) (c .loop-test .left) (l .inv .2))
+    (l .inv .2 .0, padded-all (c .before .before .args .before) (now (c .before .before .args .plane)) (l .pad) (l .i) (c .loop-test .left) (l .inv .2))
 
 pub pad-words-spec : {M : Type 1} → statement M
 pad-words-spec =

@@ -29,22 +29,44 @@ returns-2 c =
     let turn = c .before .before .turn-word in
     turned-plane (a .stride) (a .block) (a .sites) (now (a .plane)) (now (a .keep)) (turn .last .0) (p .0) (p .1) (p .2) (p .3) (turn .kept .0) (s .pre .1 .1 .0) (s .pre .1 .1 .1) (turn .ensures)
 
-sub-turn-words : tie.Need-sub-turn-words
-sub-turn-words c = search needs
+sub-turn-few : tie.Need-sub-turn-few
+sub-turn-few c = search needs
 
-turn-words-requires : tie.Need-turn-words-requires
-turn-words-requires c κs =
-    let s = c .before .before .before .before .before in
+turn-few-requires : tie.Need-turn-few-requires
+turn-few-requires c κs =
+    let s = c .before .before .before .before .before .before in
     let p = s .pre in
+    let few = c .before .if3 .taken in
     let fits = block-fits (s .args .block) (s .args .sites) (p .1 .0 .2) (omega arith) in
-    ((p .0 .0, p .0 .1), omega (arith, fits, p .0, p .1 .0))
+    ((few, p .0 .1), omega (arith, few, fits, p .0, p .1 .0))
 
 same-length-2 : tie.Need-same-length-2
 same-length-2 c = search needs
 
 returns-3 : tie.Need-returns-3
 returns-3 c =
-    let s = c .before .before .before .before .before .before .before .before in
+    let s = c .before .before .before .before .before .before .before .before .before in
+    let a = s .args in
+    let p = s .pre .1 .0 in
+    let turn = c .before .before .turn-few in
+    turned-plane (a .stride) (a .block) (a .sites) (now (a .plane)) (now (a .keep)) (turn .last .0) (p .0) (p .1) (p .2) (p .3) (turn .kept .0) (s .pre .1 .1 .0) (s .pre .1 .1 .1) (turn .ensures)
+
+sub-turn-words : tie.Need-sub-turn-words
+sub-turn-words c = search needs
+
+turn-words-requires : tie.Need-turn-words-requires
+turn-words-requires c κs =
+    let s = c .before .before .before .before .before .before in
+    let p = s .pre in
+    let fits = block-fits (s .args .block) (s .args .sites) (p .1 .0 .2) (omega arith) in
+    ((p .0 .0, p .0 .1), omega (arith, fits, p .0, p .1 .0))
+
+same-length-3 : tie.Need-same-length-3
+same-length-3 c = search needs
+
+returns-4 : tie.Need-returns-4
+returns-4 c =
+    let s = c .before .before .before .before .before .before .before .before .before in
     let a = s .args in
     let p = s .pre .1 .0 in
     let turn = c .before .before .turn-words in
@@ -59,7 +81,11 @@ rotate-kept-spec =
     turn-word-requires
     same-length
     returns-2
+    sub-turn-few
+    turn-few-requires
+    same-length-2
+    returns-3
     sub-turn-words
     turn-words-requires
-    same-length-2
-    returns-3)
+    same-length-3
+    returns-4)

@@ -7,21 +7,21 @@ use native.Mathlib.Omega.{arith}
 use borrow.Author.Needs.{needs}
 use denote.Ref.{now}
 use lib.ListN.{length, length-set}
-use Rattle.packed.specs.Packed.{wordBits, planeWords, bitOf}
+use Rattle.packed.specs.Packed.{wordBits, bitOf}
 use Rattle.packed.proofs.Packing.{Between, between-next}
 use Rattle.packed.proofs.Masks.{turned-word}
 use Rattle.packed.proofs.shift.turn_padded.Statement.{statement}
 use Rattle.packed.proofs.shift.turn_padded.Tie as tie
 
 -- the bits of a padded plane, turned
-abbrev turnedIn : List ℕ → List ℕ → ℕ → ℕ → ℕ → Bool
-turnedIn pad keep s t q = cond (bitOf keep q) (bitOf pad (wordBits * planeWords + q - s)) (bitOf pad (wordBits * planeWords + q + t))
+abbrev turnedIn : List ℕ → ℕ → List ℕ → ℕ → ℕ → ℕ → Bool
+turnedIn pad before keep s t q = cond (bitOf keep q) (bitOf pad (wordBits * before + q - s)) (bitOf pad (wordBits * before + q + t))
 
 abbrev Inv-loop : tie.InvT-loop
-Inv-loop pad keep s t plane₀ i₀ plane i = (i ≤ length plane) × (length plane ≡ length plane₀) × Between (turnedIn pad keep s t) 0 i plane
+Inv-loop pad before keep s t plane₀ i₀ plane i = (i ≤ length plane) × (length plane ≡ length plane₀) × Between (turnedIn pad before keep s t) 0 i plane
 
 abbrev μ-loop : tie.MeasureT-loop
-μ-loop pad keep s t plane₀ i₀ plane i = length plane - i
+μ-loop pad before keep s t plane₀ i₀ plane i = length plane - i
 
 loop-holds : tie.Need-loop-holds Inv-loop μ-loop
 loop-holds c = (omega arith, refl, λ j h l. absurd (omega arith))
@@ -78,10 +78,10 @@ loop-again c =
     let long = length-set (l .plane) (l .i) (v .result) in
     let pad = now (a .pad) in
     let keep = now (a .keep) in
-    let word = turned-word (a .s) (a .t) (l .i) planeWords pad keep (u .result) (d .result) (v .result) (s .pre .1 .0) (v .ensures) (u .ensures) (d .ensures) in (
+    let word = turned-word (a .s) (a .t) (l .i) (a .before) pad keep (u .result) (d .result) (v .result) (s .pre .1 .0) (v .ensures) (u .ensures) (d .ensures) in (
       omega (arith, long),
       long ∙ l .inv .1,
-      between-next (turnedIn pad keep (a .s) (a .t)) (l .plane) (l .i) (v .result) (omega arith) word (l .inv .2),
+      between-next (turnedIn pad (a .before) keep (a .s) (a .t)) (l .plane) (l .i) (v .result) (omega arith) word (l .inv .2),
     )
 
 same-length : tie.Need-same-length Inv-loop μ-loop

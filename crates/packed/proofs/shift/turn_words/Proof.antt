@@ -30,7 +30,7 @@ returns c =
     let a = s .args in
     let turn = c .before .before .turn-padded in
     let copy = c .before .before .before .before .before .before .pad-words in
-    turned-padded (a .s) (a .t) planeWords (now (a .plane)) (copy .last .1 .0) (now (a .keep)) (turn .last .1 .1 .1 .1 .0) (wordBits * length (now (a .plane))) (s .pre .1 .0) (copy .ensures .0) (copy .ensures .1) (turn .ensures)
+    turned-padded (a .s) (a .t) planeWords (now (a .plane)) (copy .last .1 .1 .0) (now (a .keep)) (turn .last .1 .1 .1 .1 .1 .0) (wordBits * length (now (a .plane))) (s .pre .1 .0) (copy .ensures .0) (copy .ensures .1) (turn .ensures)
 
 pub turn-words-spec : {M : Type 1} → statement M
 turn-words-spec =
