@@ -12,8 +12,8 @@
  *
  * A word is GOMURIN_WORD_BYTES bytes, the X plane and then the Z plane; site q is bit q mod 8 of a plane's byte q div 8, least significant first. The
  * letters by (X bit, Z bit): I 00, Z 01, X 10, Y 11. A call that takes a word takes one of GOMURIN_OLD_WORD_BYTES bytes too, for at most
- * GOMURIN_OLD_SITES sites: half of them a plane, and the bytes that a plane lacks are 0. The words of a sum all have one of the two lengths. What a call
- * hands back is always GOMURIN_WORD_BYTES bytes.
+ * GOMURIN_OLD_SITES sites: half of them a plane, and the bytes that a plane lacks are 0. The words of rows all have one of the two lengths. What a
+ * call hands back is always GOMURIN_WORD_BYTES bytes.
  *
  * A phase table is two arrays of GOMURIN_PHASES numbers, the cosines and the sines of the steps of a turn, in units of 2^-30.
  *
@@ -22,12 +22,12 @@
  * as they were, but for 25; what else a call hands back is then zeros, or a group or a walk that every call refuses, or the constant phase table. No call
  * asks anything of its caller but that addresses and lengths are true.
  *
- *   1 more than 2,048 sites                        17 a word bit at or above the site count (in a sum: its row)
+ *   1 more than 2,048 sites                        17 a word bit at or above the site count (of rows: the row)
  *   2 the generator list ends inside a generator   18 not one mode for each generator
  *   3 more than 4 generators                       19 an index not below the group order
  *   4 counts of permutations and orders (both)     20 not one digit for each generator
  *   5 a permutation's length (generator, length)   21 a list of another length than needed
- *   6 a target out of range (generator, target)    22 lists of a sum that disagree in rows
+ *   6 a target out of range (generator, target)    22 lists that disagree in rows
  *   7 a target twice (generator, target)           23 more than 4,096 rows
  *   8 order 0 (generator)                          24 a coefficient that is not finite (row)
  *   9 an exact order above 32 bits (generator)     25 a running sum that is not finite (row); the lists are then zeros
@@ -145,6 +145,16 @@ size_t gomurin_canonicalize_with_shift(size_t sites, size_t generators, const ui
                                        size_t word_length, uint8_t least[GOMURIN_WORD_BYTES], uint32_t *counter,
                                        size_t counter_length, size_t values[GOMURIN_VALUES]);
 
+/* The same as gomurin_canonicalize_with_index of many words: rows of a word each, of the group's sites, all of GOMURIN_WORD_BYTES or all of
+ * GOMURIN_OLD_WORD_BYTES bytes, at most GOMURIN_MAX_ROWS. `indices` has a place for each row, and its length says how many rows there are;
+ * `representatives` has GOMURIN_WORD_BYTES bytes for each. Row i of the two takes the least word of the orbit of row i, and the index that leads from
+ * there back to the word. Refusals, in this order: 1, 14, 22, 23, 36, and then row by row 17, with the row in values[0]; both lists then stay as they
+ * were. */
+size_t gomurin_canonicalize_words(size_t sites, size_t generators, const uint32_t orders[GOMURIN_MAX_GENERATORS],
+                                  const uint16_t targets[GOMURIN_TARGETS], const uint8_t *words, size_t words_length,
+                                  uint8_t *representatives, size_t representatives_length, size_t *indices,
+                                  size_t indices_length, size_t values[GOMURIN_VALUES]);
+
 /* The orbit list: the bytes of one entry for each index, repeats included, into a list of GOMURIN_WORD_BYTES times the order. */
 size_t gomurin_orbit_list(size_t sites, size_t generators, const uint32_t orders[GOMURIN_MAX_GENERATORS],
                           const uint16_t targets[GOMURIN_TARGETS], size_t n, const uint8_t *word, size_t word_length, uint8_t *list,
@@ -182,6 +192,17 @@ size_t gomurin_canonicalize_in_sector(size_t sites, size_t generators, const uin
                                       size_t word_length, const int32_t *modes, size_t modes_length,
                                       uint8_t least[GOMURIN_WORD_BYTES], uint32_t *counter, size_t counter_length, size_t *size,
                                       bool *kept, size_t *dropped_by, size_t values[GOMURIN_VALUES]);
+
+/* Whether modes keep the words of rows, at most GOMURIN_MAX_ROWS: rows of a word each, as in gomurin_canonicalize_words. `indices` and `sizes` have a
+ * place for each row, and the length of `indices` says how many rows there are; `representatives` has GOMURIN_WORD_BYTES bytes for each. Row i of the
+ * three takes, if the modes keep row i, the least word of its orbit, the index that leads from there back to the word, and the orbit size; of a dropped
+ * row a word of zeros, the smallest index that fixes the word with a numerator other than 0, and size 0. A kept row has a size of at least 1. Refusals,
+ * in this order: 1, 14, 18, 22, 23, 36, and then row by row 17, with the row in values[0]; the three lists then stay as they were. */
+size_t gomurin_sector_words(size_t sites, size_t generators, const uint32_t orders[GOMURIN_MAX_GENERATORS],
+                            const uint16_t targets[GOMURIN_TARGETS], const int32_t *modes, size_t modes_length,
+                            const uint8_t *words, size_t words_length, uint8_t *representatives, size_t representatives_length,
+                            size_t *indices, size_t indices_length, size_t *sizes, size_t sizes_length,
+                            size_t values[GOMURIN_VALUES]);
 
 /* ---- phase tables */
 

@@ -1,15 +1,15 @@
 -- What is promised of the calls for C beyond their contracts: 0 is returned for an answer alone; no value of a rule is lost; a refused beginning of a walk
 -- hands back a word and an index that `gomurin_next` refuses, whatever the group beside them; the two lists of a phase table that a call hands back pass;
--- and what each definition says of an example.
-use Prim.Native.Nat.{ℕ, suc, _<_}
+-- a call on many words returns 0 or a rule of its own, and a row that it names is one of its rows; and what each definition says of an example.
+use Prim.Native.Nat.{ℕ, zero, suc, _+_, _<_}
 use mathlib.Core.Path.{_≡_, refl, ap}
 use mathlib.Core.Logic.{inl, inr}
-use mathlib.Core.Bool.{Bool, true, false, not, _&&_}
+use mathlib.Core.Bool.{Bool, true, false, cond, not, _&&_}
 use mathlib.Core.List.{List, [], _∷_, map}
 use native.Mathlib.Omega.{arith}
 use lib.Dec.{ltb, leb}
-use lib.IntN.{pos, negsuc}
-use lib.ListN.{length, take}
+use lib.IntN.{ℤ, pos, negsuc}
+use lib.ListN.{length, take, getD}
 use borrow.Author.Tests.{lt-leb}
 use Rattle.outcome.specs.declared.Refusal.{Refusal}
 use Rattle.outcome.specs.declared.Refusal.the-variants as Refusal
@@ -17,7 +17,7 @@ use Rattle.outcome.specs.declared.Number.{Number}
 use Rattle.outcome.specs.declared.Number.the-variants as Number
 use Rattle.outcome.specs.declared.Verdict.{Verdict}
 use Rattle.outcome.specs.declared.Verdict.the-variants as Verdict
-use Rattle.outcome.specs.Outcome.{Outcome, answer, refused, answers, rule, unless, ruleNumber, ruleValues, outcomeOfNumber, outcomeOfVerdict}
+use Rattle.outcome.specs.Outcome.{Outcome, answer, refused, answers, Check, rule, verdict, given, unless, ruleNumber, ruleValues, outcomeOfNumber, outcomeOfVerdict}
 use Rattle.pauli_word.specs.declared.Ordering.the-variants.{Less, Same, Greater}
 use Rattle.pauli_word.specs.Limits.{maxSites}
 use Rattle.pauli_word.specs.Calls.{clearAbove}
@@ -27,8 +27,12 @@ use Rattle.action.specs.Index.{orderOf}
 use Rattle.group.specs.declared.Group.{Group}
 use Rattle.group.specs.Value.{generatorsOf, isGroup}
 use Rattle.group.proofs.Accepted.{accepted-by, accepted-tables}
+use Rattle.row_lists.specs.Rows.{rowsInFull}
+use Rattle.row_lists.specs.Checks.{bitsAboveSites}
 use Rattle.orbit.specs.Calls.{isWalk, noWord, noWalk, nextOutcome, entry, finished, walkIn}
+use Rattle.orbit.specs.Words.{wordsChecks, wordsOutcome}
 use Rattle.momentum.specs.Calls.{kept, dropped}
+use Rattle.momentum.specs.Words.{sectorWordsChecks, sectorWordsOutcome}
 use Rattle.text.specs.Text.{lineEnd, pieces}
 use Rattle.phases.specs.Table.{phaseTable}
 use Rattle.phases.specs.Rules.{tableOf, passes}
@@ -180,7 +184,95 @@ module _ (file : List ℕ) where
       let lines = pieces lineEnd file in
       three (ltb maxFile (length file)) (not (isFile lines)) (not (passes (tableIn lines))) (tableIn lines)
 
--- ---- 5 Examples: what each definition says
+-- ---- 5 Many words: a call returns 0 or the number of one of its rules; and the row that it names by 17 is one of its rows
+
+-- a call of k rows returns 0 or one of some numbers, and by 17 it names one of the rows
+abbrev pub ToldRows : {A : Type 0} → ℕ → List ℕ → Outcome A → Type 0
+ToldRows k numbers o = Member (numberOf o) (0 ∷ numbers) × (numberOf o ≡ 17 → getD (valuesOf o) 0 0 < k)
+
+module _ (k : ℕ) (numbers : List ℕ) where
+  -- checks that refuse by these numbers alone, and by 17 with one of the rows
+  abbrev Among : List Check → Type 0
+  Among [] = Unit {0}
+  Among (c ∷ cs) = Member (c .number) numbers × (c .number ≡ 17 → getD (c .values) 0 0 < k) × Among cs
+
+  module _ {A : Type 0} (t : A) where
+    first-told :
+        (b : Bool) (number : ℕ) (named : List ℕ) (o : Outcome (Unit {0}))
+        → Member number numbers → (number ≡ 17 → getD named 0 0 < k) → ToldRows k numbers (given o (answer t))
+        → ToldRows k numbers (given (cond b (refused number named) o) (answer t))
+    first-told true number named o listed row rest = (inr listed, row)
+    first-told false number named o listed row rest = rest
+
+    among-told : (cs : List Check) → Among cs → ToldRows k numbers (unless cs (answer t))
+    among-told [] own = (inl refl, λ e. absurd (omega arith))
+    among-told (c ∷ cs) (listed, row, own) =
+        first-told (c .broken) (c .number) (c .values) (verdict cs) listed row (among-told cs own)
+
+  rows-among : Member 17 numbers → (n : ℕ) (words : List ℕ) (i j : ℕ) → i + j ≡ k → Among (bitsAboveSites n words i j)
+  rows-among listed n words i zero e = tt
+  rows-among listed n words i (suc j) e = (listed, λ _. omega arith, rows-among listed n words (suc i) j (omega arith))
+
+module _ (g : Group) (words : List ℕ) (k representatives : ℕ) where
+  pub words-told : ToldRows k (1 ∷ 14 ∷ 22 ∷ 23 ∷ 36 ∷ 17 ∷ []) (wordsOutcome g words k representatives)
+  unfolding wordsOutcome
+  words-told =
+      let numbers : List ℕ = 1 ∷ 14 ∷ 22 ∷ 23 ∷ 36 ∷ 17 ∷ [] in
+      among-told k numbers _ (wordsChecks g words k representatives) (
+        inl refl,
+        λ e. absurd (omega arith),
+        (
+          inr (inl refl),
+          λ e. absurd (omega arith),
+          (
+            inr (inr (inl refl)),
+            λ e. absurd (omega arith),
+            (
+              inr (inr (inr (inl refl))),
+              λ e. absurd (omega arith),
+              (
+                inr (inr (inr (inr (inl refl)))),
+                λ e. absurd (omega arith),
+                rows-among k numbers (inr (inr (inr (inr (inr (inl refl)))))) (g .sites) (rowsInFull k words) 0 k (omega arith),
+              ),
+            ),
+          ),
+        ),
+      )
+
+  pub sector-words-told :
+      (modes : List ℤ) (sizes : ℕ)
+      → ToldRows k (1 ∷ 14 ∷ 18 ∷ 22 ∷ 23 ∷ 36 ∷ 17 ∷ []) (sectorWordsOutcome g modes words k representatives sizes)
+  unfolding sectorWordsOutcome
+  sector-words-told modes sizes =
+      let numbers : List ℕ = 1 ∷ 14 ∷ 18 ∷ 22 ∷ 23 ∷ 36 ∷ 17 ∷ [] in
+      among-told k numbers _ (sectorWordsChecks g modes words k representatives sizes) (
+        inl refl,
+        λ e. absurd (omega arith),
+        (
+          inr (inl refl),
+          λ e. absurd (omega arith),
+          (
+            inr (inr (inl refl)),
+            λ e. absurd (omega arith),
+            (
+              inr (inr (inr (inl refl))),
+              λ e. absurd (omega arith),
+              (
+                inr (inr (inr (inr (inl refl)))),
+                λ e. absurd (omega arith),
+                (
+                  inr (inr (inr (inr (inr (inl refl))))),
+                  λ e. absurd (omega arith),
+                  rows-among k numbers (inr (inr (inr (inr (inr (inr (inl refl))))))) (g .sites) (rowsInFull k words) 0 k (omega arith),
+                ),
+              ),
+            ),
+          ),
+        ),
+      )
+
+-- ---- 6 Examples: what each definition says
 
 pub numbers : map (numberOf {A = ℕ}) (refused 14 [] ∷ refused 10 (0 ∷ 2 ∷ 4 ∷ []) ∷ answer 7 ∷ []) ≡ 14 ∷ 10 ∷ 0 ∷ []
 numbers = refl

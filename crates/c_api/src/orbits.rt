@@ -1,4 +1,4 @@
-// Orbits: least words, the indices that lead back from them, orbit lists and walks.
+// Orbits: least words, of one word and of many, the indices that lead back from them, orbit lists and walks.
 ghost use mathlib.Core.Path.{_≡_};
 ghost use mathlib.Core.Bool.{false};
 ghost use lib.ListN.{length};
@@ -7,6 +7,7 @@ ghost use Rattle.pauli_word.specs.Bytes.{bytesOf};
 ghost use Rattle.elements.specs.HeldGroup.{encodeAll};
 ghost use Rattle.orbit.specs.Calls.{canonicalizeOutcome, withIndexOutcome, withShiftOutcome, orbitListOutcome, noWord, beginOutcome, noWalk, nextOutcome, entryWord, wordOf, indexOf, shiftOf, walkIn};
 ghost use Rattle.orbit.specs.Walked.{stepOn};
+ghost use Rattle.orbit.specs.Words.{wordsOutcome, wordsOf, indicesOf};
 ghost use Rattle.group.specs.Value.{groupIn};
 ghost use Rattle.c_api.specs.Told.{numberOf, valuesOf, indexOfEntry, isFinished};
 use crate::VALUES;
@@ -96,6 +97,37 @@ pub extern "C" fn gomurin_canonicalize_with_shift<'a>(
     *least = bytes;
     let answer = found.answer;
     told::verdict(answer, values)
+}
+
+// The least word of each row's orbit, and the index that leads back. The words are all of one form; the output lists have as many rows, the words in full.
+#[no_mangle]
+pub extern "C" fn gomurin_canonicalize_words<'a>(
+    sites: usize,
+    generators: usize,
+    orders: &'a [u32; MAX_GENERATORS],
+    targets: &'a [u16; TARGET_PLACES],
+    words: &[u8],
+    representatives: &mut [u8],
+    indices: &mut [usize],
+    values: &mut [usize; VALUES],
+) -> usize
+    ensures number { λ r. ⌜ r ≡ numberOf (wordsOutcome (groupIn sites generators (now (orders .entry)) (now (targets .entry))) (now (words .entry)) (length (now (indices .entry))) (length (now (representatives .entry)))) ⌝ }
+    ensures representatives { λ _. ⌜ now (representatives .exit) ≡ orElse wordsOf (now (representatives .entry)) (wordsOutcome (groupIn sites generators (now (orders .entry)) (now (targets .entry))) (now (words .entry)) (length (now (indices .entry))) (length (now (representatives .entry)))) ⌝ }
+    ensures indices { λ _. ⌜ now (indices .exit) ≡ orElse indicesOf (now (indices .entry)) (wordsOutcome (groupIn sites generators (now (orders .entry)) (now (targets .entry))) (now (words .entry)) (length (now (indices .entry))) (length (now (representatives .entry)))) ⌝ }
+    ensures values { λ _. ⌜ now (values .exit) ≡ valuesOf (wordsOutcome (groupIn sites generators (now (orders .entry)) (now (targets .entry))) (now (words .entry)) (length (now (indices .entry))) (length (now (representatives .entry)))) ⌝ }
+{
+    told::verdict(
+        orbit::lent::canonicalize_words(
+            targets,
+            orders,
+            generators,
+            sites,
+            words,
+            representatives,
+            indices,
+        ),
+        values,
+    )
 }
 
 // The orbit list: the bytes of one entry for each index, repeats included, into a list of WORD_BYTES times the order.

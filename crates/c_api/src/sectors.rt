@@ -1,4 +1,4 @@
-// Sectors: phase numerators, and which words modes keep.
+// Sectors: phase numerators, and which words modes keep, of one word and of many.
 ghost use mathlib.Core.Path.{_≡_};
 ghost use mathlib.Core.Bool.{false};
 ghost use lib.ListN.{length};
@@ -6,6 +6,7 @@ ghost use Rattle.outcome.specs.Outcome.{orElse, itself};
 ghost use Rattle.group.specs.Value.{generatorsOf, groupIn};
 ghost use Rattle.orbit.specs.Calls.{noWord};
 ghost use Rattle.momentum.specs.Calls.{numeratorOutcome, tableOutcome, sectorOutcome, rowWord, rowCounter};
+ghost use Rattle.momentum.specs.Words.{sectorWordsOutcome, sectorWords, sectorIndices, sectorSizes};
 ghost use Rattle.c_api.specs.Told.{numberOf, valuesOf, rowSize, isKept, dropIndex};
 use crate::VALUES;
 use crate::told;
@@ -99,4 +100,42 @@ pub extern "C" fn gomurin_canonicalize_in_sector<'a>(
     *least = bytes;
     let answer = found.answer;
     told::sector(answer, size, kept, dropped_by, values)
+}
+
+// Whether modes keep the words of rows. The words are all of one form; the output lists have as many rows, the words in full. A kept row comes with the
+// least word of its orbit, the index that leads from there back to its word, and the orbit size; a dropped one with a zero word, the smallest index that
+// fixes it with a numerator other than 0, and the size 0.
+#[no_mangle]
+pub extern "C" fn gomurin_sector_words<'a>(
+    sites: usize,
+    generators: usize,
+    orders: &'a [u32; MAX_GENERATORS],
+    targets: &'a [u16; TARGET_PLACES],
+    modes: &[i32],
+    words: &[u8],
+    representatives: &mut [u8],
+    indices: &mut [usize],
+    sizes: &mut [usize],
+    values: &mut [usize; VALUES],
+) -> usize
+    ensures number { λ r. ⌜ r ≡ numberOf (sectorWordsOutcome (groupIn sites generators (now (orders .entry)) (now (targets .entry))) (now (modes .entry)) (now (words .entry)) (length (now (indices .entry))) (length (now (representatives .entry))) (length (now (sizes .entry)))) ⌝ }
+    ensures representatives { λ _. ⌜ now (representatives .exit) ≡ orElse sectorWords (now (representatives .entry)) (sectorWordsOutcome (groupIn sites generators (now (orders .entry)) (now (targets .entry))) (now (modes .entry)) (now (words .entry)) (length (now (indices .entry))) (length (now (representatives .entry))) (length (now (sizes .entry)))) ⌝ }
+    ensures indices { λ _. ⌜ now (indices .exit) ≡ orElse sectorIndices (now (indices .entry)) (sectorWordsOutcome (groupIn sites generators (now (orders .entry)) (now (targets .entry))) (now (modes .entry)) (now (words .entry)) (length (now (indices .entry))) (length (now (representatives .entry))) (length (now (sizes .entry)))) ⌝ }
+    ensures sizes { λ _. ⌜ now (sizes .exit) ≡ orElse sectorSizes (now (sizes .entry)) (sectorWordsOutcome (groupIn sites generators (now (orders .entry)) (now (targets .entry))) (now (modes .entry)) (now (words .entry)) (length (now (indices .entry))) (length (now (representatives .entry))) (length (now (sizes .entry)))) ⌝ }
+    ensures values { λ _. ⌜ now (values .exit) ≡ valuesOf (sectorWordsOutcome (groupIn sites generators (now (orders .entry)) (now (targets .entry))) (now (modes .entry)) (now (words .entry)) (length (now (indices .entry))) (length (now (representatives .entry))) (length (now (sizes .entry)))) ⌝ }
+{
+    told::verdict(
+        momentum::lent::sector_words(
+            targets,
+            orders,
+            generators,
+            sites,
+            modes,
+            words,
+            representatives,
+            indices,
+            sizes,
+        ),
+        values,
+    )
 }

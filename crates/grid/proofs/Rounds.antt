@@ -1,7 +1,7 @@
 -- Refinement round by round and block by block: what is known of the candidates left after some places of a block, and after some blocks of a plane.
 use Prim.Native.Nat.{ℕ, suc, _+_, _-_, _*_, _/_, _%_, _≤_, _<_}
 use mathlib.Core.Path.{_≡_, refl, sym, ap, _∙_}
-use mathlib.Core.Bool.{Bool}
+use mathlib.Core.Bool.{Bool, false}
 use mathlib.Core.List.{List}
 use native.Mathlib.Nat.{add-zero, add-assoc, add-mod-right, div-add-mod, lt-of-mul-lt-mul-left, mul-le-mul-left, mul-suc, zero-mod}
 use native.Mathlib.Numerals.{add-one}
@@ -12,7 +12,7 @@ use Rattle.action.specs.Permutation.{Generator, Valid}
 use Rattle.action.specs.Index.{orderOf, add}
 use Rattle.action.proofs.Index as Index
 use Rattle.action.proofs.Theorems as Theorems
-use Rattle.packed.specs.Packed.{bitOf, Clear}
+use Rattle.packed.specs.Packed.{bitOf}
 use Rattle.grid.specs.Grid.{Grid, further}
 use Rattle.grid.specs.Candidates.{Left}
 use Rattle.grid.specs.Stages.{patience, Refined}
@@ -30,60 +30,54 @@ abbrev pub Rounds : (ℕ → Bool) → (ℕ → Bool) → (ℕ → Bool) → Typ
 Rounds at S T = (o t : ℕ) (F : ℕ → ℕ → Bool) → Left o F t S → ((k : ℕ) → k < o → at k ≡ F k t) → Left o F (suc t) T
 
 -- h places of a block are read: `at` has the candidates' bits at the next
-pub record Along (gs : List Generator) (order : ℕ) (at₀ left₀ at left : List ℕ) (h stale : ℕ) : Type 0 where
+pub record Along (gs : List Generator) (order : ℕ) (at₀ left₀ at left : ℕ → Bool) (h stale : ℕ) : Type 0 where
   pub inside : h ≤ order
   pub few : stale ≤ patience
-  pub atLong : length at ≡ length at₀
-  pub leftLong : length left ≡ length left₀
-  pub clear : Clear order at
-  pub bits : (k : ℕ) → k < order → bitOf at k ≡ bitOf at₀ (add gs h k)
-  pub left' : (F : ℕ → ℕ → Bool) (t : ℕ) → Left order F t (bitOf left₀) → Shows gs order (bitOf at₀) F t → Left order F (t + h) (bitOf left)
+  pub clear : (k : ℕ) → order ≤ k → at k ≡ false
+  pub bits : (k : ℕ) → k < order → at k ≡ at₀ (add gs h k)
+  pub left' : (F : ℕ → ℕ → Bool) (t : ℕ) → Left order F t left₀ → Shows gs order at₀ F t → Left order F (t + h) left
 
-module _ {n : ℕ} {gs : List Generator} (valid : Valid n gs) {order : ℕ} (whole : order ≡ orderOf gs) {at₀ left₀ : List ℕ} where
+module _ {n : ℕ} {gs : List Generator} (valid : Valid n gs) {order : ℕ} (whole : order ≡ orderOf gs) {at₀ left₀ : ℕ → Bool} where
   -- nothing is read at first
-  pub along-start : Clear order at₀ → Along gs order at₀ left₀ at₀ left₀ 0 0
+  pub along-start : ((k : ℕ) → order ≤ k → at₀ k ≡ false) → Along gs order at₀ left₀ at₀ left₀ 0 0
   along-start clear = record {
     inside = omega arith;
     few = omega arith;
-    atLong = refl;
-    leftLong = refl;
     clear = clear;
-    bits = λ k h. ap (bitOf at₀) (sym (Theorems.add-zero valid k (rw (← whole) h)) ∙ Theorems.add-comm valid k 0);
+    bits = λ k h. ap at₀ (sym (Theorems.add-zero valid k (rw (← whole) h)) ∙ Theorems.add-comm valid k 0);
     left' = λ F t l s. rw add-zero l;
   }
 
-module _ {gs : List Generator} {order : ℕ} {at₀ left₀ at left : List ℕ} {h stale : ℕ} (a : Along gs order at₀ left₀ at left h stale) (more : h < order)
-    (left′ : List ℕ) (round : Rounds (bitOf at) (bitOf left) (bitOf left′)) where
+module _ {gs : List Generator} {order : ℕ} {at₀ left₀ at left : ℕ → Bool} {h stale : ℕ} (a : Along gs order at₀ left₀ at left h stale) (more : h < order)
+    (left′ : ℕ → Bool) (round : Rounds at left left′) where
   -- a round reads the next place
-  pub along-round : (F : ℕ → ℕ → Bool) (t : ℕ) → Left order F t (bitOf left₀) → Shows gs order (bitOf at₀) F t → Left order F (suc (t + h)) (bitOf left′)
+  pub along-round : (F : ℕ → ℕ → Bool) (t : ℕ) → Left order F t left₀ → Shows gs order at₀ F t → Left order F (suc (t + h)) left′
   along-round F t l s = round order (t + h) F (a .left' F t l s) (λ k m. a .bits k m ∙ sym (s h k more m))
 
   -- where one is left it is left by the whole block
-  pub along-alone : (k : ℕ) → ((j : ℕ) → bitOf left′ j ≡ eqb j k) → (F : ℕ → ℕ → Bool) (t : ℕ) → Left order F t (bitOf left₀) → Shows gs order (bitOf at₀) F t
-      → Refined (Alone k) order F (t + order) (bitOf left′)
+  pub along-alone : (k : ℕ) → ((j : ℕ) → left′ j ≡ eqb j k) → (F : ℕ → ℕ → Bool) (t : ℕ) → Left order F t left₀ → Shows gs order at₀ F t
+      → Refined (Alone k) order F (t + order) left′
   along-alone k one F t l s = (left-alone (along-round F t l s) (omega arith) k one, one)
 
   -- and refining may stop there
-  pub along-tired : (F : ℕ → ℕ → Bool) (t : ℕ) → Left order F t (bitOf left₀) → Shows gs order (bitOf at₀) F t → Refined Tired order F (t + order) (bitOf left′)
+  pub along-tired : (F : ℕ → ℕ → Bool) (t : ℕ) → Left order F t left₀ → Shows gs order at₀ F t → Refined Tired order F (t + order) left′
   along-tired F t l s = (suc (t + h), omega arith, along-round F t l s)
 
   -- or go on to the next place
-  pub along-next : {at′ : List ℕ} {stale′ : ℕ} → length left′ ≡ length left → length at′ ≡ length at → stale′ ≤ patience → Clear order at′
-      → ((f : ℕ → Bool) → ((k : ℕ) → k < order → bitOf at k ≡ f (add gs h k)) → (k : ℕ) → k < order → bitOf at′ k ≡ f (add gs (suc h) k))
+  pub along-next : (at′ : ℕ → Bool) {stale′ : ℕ} → stale′ ≤ patience → ((k : ℕ) → order ≤ k → at′ k ≡ false)
+      → ((f : ℕ → Bool) → ((k : ℕ) → k < order → at k ≡ f (add gs h k)) → (k : ℕ) → k < order → at′ k ≡ f (add gs (suc h) k))
       → Along gs order at₀ left₀ at′ left′ (h + 1) stale′
-  along-next e d few clear steps = record {
+  along-next at′ few clear steps = record {
     inside = omega arith;
     few = few;
-    atLong = d ∙ a .atLong;
-    leftLong = e ∙ a .leftLong;
     clear = clear;
-    bits = λ k m. steps (bitOf at₀) (a .bits) k m ∙ ap (λ (i : ℕ). bitOf at₀ (add gs i k)) (sym (add-one h));
+    bits = λ k m. steps at₀ (a .bits) k m ∙ ap (λ (i : ℕ). at₀ (add gs i k)) (sym (add-one h));
     left' = λ F t l s. let e : suc (t + h) ≡ t + (h + 1) = omega arith in rw e at (along-round F t l s);
   }
 
 -- after the last place the block is read
-pub along-end : {gs : List Generator} {order : ℕ} {at₀ left₀ at left : List ℕ} {h stale : ℕ} → Along gs order at₀ left₀ at left h stale → order ≤ h
-    → (F : ℕ → ℕ → Bool) (t : ℕ) → Left order F t (bitOf left₀) → Shows gs order (bitOf at₀) F t → Refined Through order F (t + order) (bitOf left)
+pub along-end : {gs : List Generator} {order : ℕ} {at₀ left₀ at left : ℕ → Bool} {h stale : ℕ} → Along gs order at₀ left₀ at left h stale → order ≤ h
+    → (F : ℕ → ℕ → Bool) (t : ℕ) → Left order F t left₀ → Shows gs order at₀ F t → Refined Through order F (t + order) left
 along-end {order = order} {h = h} a over F t l s = let e : h ≡ order = omega (arith, a .inside) in rw e at (a .left' F t l s)
 
 -- a block whose bits are all alike changes nothing

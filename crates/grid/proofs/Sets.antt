@@ -35,12 +35,14 @@ xor-and false t = refl
 pub both-word : (a b : List ℕ) (j : ℕ) → WordOf (inBoth a b) j (bitAnd (getD a j 0) (getD b j 0))
 both-word a b j k h = bit-and (getD a j 0) (getD b j 0) k ∙ ap₂ _&&_ (sym (bitOf-word a j k h)) (sym (bitOf-word b j k h))
 
+-- a bit of `x ^ (x & y)` is set where x alone has one
+pub without-bit : (x y k : ℕ) → bitAt (bitXor x (bitAnd x y)) k ≡ (bitAt x k && not (bitAt y k))
+without-bit x y k = bit-xor x (bitAnd x y) k ∙ ap (xor (bitAt x k)) (bit-and x y k) ∙ xor-and (bitAt x k) (bitAt y k)
+
 -- word j of those in the first alone
 pub first-word : (a b : List ℕ) (j x : ℕ) → x ≡ getD a j 0 → WordOf (inFirst a b) j (bitXor x (bitAnd x (getD b j 0)))
 first-word a b j x e k h =
-    bit-xor x (bitAnd x (getD b j 0)) k
-    ∙ ap (xor (bitAt x k)) (bit-and x (getD b j 0) k)
-    ∙ xor-and (bitAt x k) (bitAt (getD b j 0) k)
+    without-bit x (getD b j 0) k
     ∙ ap₂ (λ (s t : Bool). s && not t) (ap (λ (y : ℕ). bitAt y k) e ∙ sym (bitOf-word a j k h)) (sym (bitOf-word b j k h))
 
 -- past its words a set has none, and so has its part that passes a test

@@ -67,7 +67,8 @@ module _ (p o k : ℕ) where
 
 -- a number whose digit does not roll over
 module _ (o d : ℕ) (more : d % o + 1 < o) where
-  stays-digit : suc d % o ≡ suc (d % o)
+  -- its digit goes up by 1
+  pub stays-digit : suc d % o ≡ suc (d % o)
   stays-digit =
       let e : suc d ≡ d / o * o + suc (d % o) = omega (arith, div-add-mod d o) in
       ap (λ (x : ℕ). x % o) e ∙ digits-mod (d / o) (omega arith)
@@ -79,7 +80,8 @@ module _ (o d : ℕ) (more : d % o + 1 < o) where
 
 -- one whose digit does
 module _ (o d : ℕ) (rolls : d % o + 1 ≡ o) where
-  rolls-digit : suc d % o ≡ 0
+  -- its digit becomes 0
+  pub rolls-digit : suc d % o ≡ 0
   rolls-digit =
       let e : suc d ≡ suc (d / o) * o + 0 = omega (arith, div-add-mod d o) in
       ap (λ (x : ℕ). x % o) e ∙ digits-mod (suc (d / o)) (omega arith)

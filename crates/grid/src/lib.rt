@@ -4,6 +4,7 @@
 pub mod axes;
 pub mod block;
 pub mod candidates;
+pub mod one;
 pub mod refine;
 pub mod settle;
 pub mod step;

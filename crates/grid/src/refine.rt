@@ -13,11 +13,12 @@ ghost use Rattle.grid.specs.Stages.{patience, Refined, Staged};
 use crate::block;
 use crate::candidates;
 use crate::candidates::Round;
+use crate::one;
 use crate::step;
 use packed::PLANE_WORDS;
 
 // How many rounds in a row may strike out no candidate before refining stops.
-const PATIENCE: usize = 16;
+pub const PATIENCE: usize = 16;
 
 // Where refining stops.
 pub enum Stage {
@@ -41,8 +42,8 @@ pub fn waited(round: Round, stale: usize) -> usize
     }
 }
 
-// Refines by one block, place after place. `at` holds the candidates' bits at its first place.
-pub fn refine_block(
+// Refines by one block, place after place, where a set is any number of machine words. `at` holds the candidates' bits at its first place.
+pub fn refine_words(
     targets: &[u16],
     orders: &[u32],
     generators: usize,
@@ -88,6 +89,57 @@ pub fn refine_block(
         h += 1;
     }
     Stage::Through
+}
+
+// Refines by one block: where a set is one machine word, by plain numbers. `at` holds the candidates' bits at its first place.
+pub fn refine_block(
+    targets: &[u16],
+    orders: &[u32],
+    generators: usize,
+    sites: usize,
+    strides: &[usize],
+    rests: &[usize],
+    masks: &[u64],
+    order: usize,
+    at: &mut [u64],
+    left: &mut [u64],
+) -> Stage
+    requires { ⌜ Tables generators sites (now targets) (now orders) ⌝ }
+    requires { ⌜ order ≡ orderOf (generatorsIn generators sites (now targets) (now orders)) ⌝ }
+    requires { ⌜ Steps generators order (length (now at)) (now orders) (now strides) (now rests) (now masks) ⌝ }
+    requires { ⌜ Clear order (now at) × (length (now left) ≡ length (now at)) ⌝ }
+    ensures { λ r. ⌜ ((F : ℕ → ℕ → Bool) (t : ℕ) → Left order F t (bitOf (now (left .entry)))
+        → ((h k : ℕ) → h < order → k < order → F k (t + h) ≡ bitOf (now (at .entry)) (add (generatorsIn generators sites (now (targets .entry)) (now (orders .entry))) h k))
+        → Refined r order F (t + order) (bitOf (now (left .exit)))) ⌝ }
+{
+    if at.len() == 1 {
+        let stopped = one::refine_word(
+            targets,
+            orders,
+            generators,
+            sites,
+            strides,
+            rests,
+            masks,
+            order,
+            at[0],
+            left[0],
+        );
+        left[0] = stopped.left;
+        return stopped.stage;
+    }
+    refine_words(
+        targets,
+        orders,
+        generators,
+        sites,
+        strides,
+        rests,
+        masks,
+        order,
+        at,
+        left,
+    )
 }
 
 // Refines by the block of a plane that begins at a site. A block whose bits are all alike strikes out none.

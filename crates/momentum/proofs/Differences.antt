@@ -153,7 +153,7 @@ module _ {n : ℕ} {gs : List Generator} (v : Valid n gs) (ks : List ℤ) (w : W
 
   -- where there is none the modes keep it
   pub tallied-kept : {size : ℕ} → o ≤ s → (0 < c → size ≡ o / c) → Placement.Kept back size ≡ placementOf (decision gs ks w)
-  unfolding indexBack orbitSize
+  unfolding orbitSize
   tallied-kept {size} h es = keeps-placed gs ks w kept eb (es some-lead ∙ ap₂ (λ (i j : ℕ). i / j) eo counted)
     where
       kept : keeps gs ks w ≡ true

@@ -1,111 +1,69 @@
--- `refine::refine_block` meets its contract. The loop's invariant: h places of the block are read (`Along`).
-use Prim.Native.Nat.{_-_, _<_}
-use mathlib.Core.Path.{_≡_, refl, sym, subst, _∙_}
-use native.Mathlib.Omega.{arith}
-use borrow.Author.Needs.{needs}
-use lib.ListN.{length}
+-- `refine::refine_block` meets its contract.
+use mathlib.Core.Path.{_≡_, _∙_}
 use denote.Ref.{now}
 use Rattle.elements.specs.HeldGroup.{generatorsIn}
-use Rattle.packed.specs.Packed.{bitOf}
-use Rattle.grid.specs.Stages.{AloneIn}
-use Rattle.grid.proofs.Rounds.{Along, along-start, along-alone, along-tired, along-next, along-end}
+use Rattle.grid.proofs.OneWord.{clear-word, refined-word}
+use borrow.Author.Needs.{needs}
 use Rattle.grid.proofs.refine.refine_block.Statement.{statement}
 use Rattle.grid.proofs.refine.refine_block.Tie as tie
-use Rattle.grid.proofs.refine.refine_block.Reads as reads
-use Rattle.grid.proofs.refine.refine_block.Lts as lts
 
-abbrev Inv-loop : tie.InvT-loop
-Inv-loop targets orders generators sites strides rests masks order at₀ left₀ stale₀ h₀ at left stale h =
-    Along (generatorsIn generators sites targets orders) order at₀ left₀ at left h stale
+slice-read-refine-word : tie.Need-slice-read-refine-word
+slice-read-refine-word c = search needs
 
-abbrev μ-loop : tie.MeasureT-loop
-μ-loop targets orders generators sites strides rests masks order at₀ left₀ stale₀ h₀ at left stale h = order - h
+slice-read-refine-word-2 : tie.Need-slice-read-refine-word-2
+slice-read-refine-word-2 c = search needs
 
-loop-holds : tie.Need-loop-holds Inv-loop μ-loop
-loop-holds c = let s = c .before .before .before .before .before .before .before in along-start (s .pre .0 .valid) (s .pre .1 .0) (s .pre .1 .1 .1 .0)
+refine-word-requires : tie.Need-refine-word-requires
+refine-word-requires c κs =
+    let s = c .before .before .before .before .before .before .before .before .before .before in
+    let one = c .before .before .if1 .taken in
+    let at = now (s .args .at) in
+    let left = now (s .args .left) in
+    let atFits = c .before .slice-known3 .given 0 .fits in
+    let leftFits = c .slice-known4 .given 0 .fits in
+    (s .pre .0, (s .pre .1 .0, (rw one at (s .pre .1 .1 .0), clear-word at left one (s .pre .1 .1 .1 .1 ∙ one) atFits leftFits (s .args .order) (s .pre .1 .1 .1 .0))))
 
-strike-round-requires : tie.Need-strike-round-requires Inv-loop μ-loop
-strike-round-requires c κs =
-    let s = c .before .before .before .before .before .before .before .before .before .before .before in
-    let a = c .before .before .before .loop .inv in
-    let e = s .pre .1 .1 .1 .1 in
-    let r = s .pre .1 .1 .0 .room in
-    let m = s .pre .1 .1 .0 .few in
-    (a .atLong ∙ sym e ∙ sym (a .leftLong), omega (arith, a .leftLong, e, r, c .before .before .loop-test .taken), omega (arith, a .leftLong, e, m))
+slice-write-left : tie.Need-slice-write-left
+slice-write-left c = search needs
 
-enum-known-told : tie.Need-enum-known-told Inv-loop μ-loop
-enum-known-told c = search needs
+same-length : tie.Need-same-length
+same-length c = search needs
 
-same-length : tie.Need-same-length Inv-loop μ-loop
-same-length c = c .before .before .before .before .before .before .before .before .before .loop .inv .atLong
-
-same-length-2 : tie.Need-same-length-2 Inv-loop μ-loop
-same-length-2 c = c .before .before .before .before .before .strike-round .kept .1 .0 ∙ c .before .before .before .before .before .before .before .before .before .loop .inv .leftLong
-
-returns : tie.Need-returns Inv-loop μ-loop
+returns : tie.Need-returns
 returns c =
-    let r = c .before .before .before .before .before .strike-round in
-    along-alone (c .before .before .before .before .before .before .before .before .before .loop .inv) (c .before .before .before .before .before .before .before .before .loop-test .taken) (r .last .1 .0) (r .ensures .0) (c .before .told .given .0 .0) (rw (c .before .told .given .1) at (r .ensures .1))
+    let s = c .before .before .before .before .before .before .before .before .before .before .before in
+    let one = c .before .before .before .if1 .taken in
+    let at = now (s .args .at) in
+    let left = now (s .args .left) in
+    let gs = generatorsIn (s .args .generators) (s .args .sites) (now (s .args .targets)) (now (s .args .orders)) in
+    let atFits = c .before .before .slice-known3 .given 0 .fits in
+    let leftFits = c .before .slice-known4 .given 0 .fits in
+    let r = c .refine-word in
+    refined-word at left one (s .pre .1 .1 .1 .1 ∙ one) atFits leftFits (r .result .stage) gs (s .args .order) (r .result .left) (r .ok .1 .1 .0 .1) (r .ensures)
 
-waited-requires : tie.Need-waited-requires Inv-loop μ-loop
-waited-requires c κs = c .before .before .before .before .before .before .before .loop .inv .few
+refine-words-requires : tie.Need-refine-words-requires
+refine-words-requires c κs = search needs
 
-same-length-3 : tie.Need-same-length-3 Inv-loop μ-loop
-same-length-3 c = c .before .before .before .before .before .before .before .before .before .loop .inv .atLong
+same-length-2 : tie.Need-same-length-2
+same-length-2 c = search needs
 
-same-length-4 : tie.Need-same-length-4 Inv-loop μ-loop
-same-length-4 c = c .before .before .before .before .before .strike-round .kept .1 .0 ∙ c .before .before .before .before .before .before .before .before .before .loop .inv .leftLong
+same-length-3 : tie.Need-same-length-3
+same-length-3 c = search needs
 
-returns-2 : tie.Need-returns-2 Inv-loop μ-loop
-returns-2 c = let r = c .before .before .before .before .before .strike-round in along-tired (c .before .before .before .before .before .before .before .before .before .loop .inv) (c .before .before .before .before .before .before .before .before .loop-test .taken) (r .last .1 .0) (r .ensures .0)
-
-step-requires : tie.Need-step-requires Inv-loop μ-loop
-step-requires c κs =
-    let s = c .before .before .before .before .before .before .before .before .before .before .before .before .before .before .before .before .before .before in
-    let a = c .before .before .before .before .before .before .before .before .before .before .loop .inv in
-    (s .pre .0, (s .pre .1 .0, (rw (← a .atLong) at (s .pre .1 .1 .0), a .clear)))
-
-add-h : tie.Need-add-h Inv-loop μ-loop
-add-h c = let s = c .before .before .before .before .before .before .before .before .before .before .before .before .before .before .before .before .before .before .before .before .before in omega (arith, c .before .before .before .before .before .before .before .before .before .before .before .before .loop-test .taken, s .pre .1 .1 .0 .room, s .pre .1 .1 .0 .few)
-
-loop-less : tie.Need-loop-less Inv-loop μ-loop
-loop-less c = omega (arith, c .before .before .before .before .before .before .before .before .before .before .before .before .loop-test .taken)
-
-loop-again : tie.Need-loop-again Inv-loop μ-loop
-loop-again c =
-    let r = c .before .before .before .before .before .before .before .before .before .strike-round in
-    let t = c .before .before .step in
-    along-next (c .before .before .before .before .before .before .before .before .before .before .before .before .before .loop .inv) (c .before .before .before .before .before .before .before .before .before .before .before .before .loop-test .taken) (r .last .1 .0) (r .ensures .0) (r .kept .1 .0) (t .kept .1 .1 .1 .1 .1 .1 .1 .1 .1 .0) (omega (arith, c .before .before .before .before .if1 .left)) (t .ensures .0) (t .ensures .1)
-
-same-length-5 : tie.Need-same-length-5 Inv-loop μ-loop
-same-length-5 c = c .before .loop .inv .atLong
-
-same-length-6 : tie.Need-same-length-6 Inv-loop μ-loop
-same-length-6 c = c .before .loop .inv .leftLong
-
-returns-3 : tie.Need-returns-3 Inv-loop μ-loop
-returns-3 c = along-end (c .before .loop .inv) (c .loop-test .left)
+returns-2 : tie.Need-returns-2
+returns-2 c = search needs
 
 pub refine-block-spec : {M : Type 1} → statement M
 refine-block-spec =
     tie.close
     (tie.spec
-    Inv-loop
-    μ-loop
-    loop-holds
-    strike-round-requires
-    enum-known-told
+    slice-read-refine-word
+    slice-read-refine-word-2
+    refine-word-requires
+    slice-write-left
     same-length
-    same-length-2
     returns
-    waited-requires
+    refine-words-requires
+    same-length-2
     same-length-3
-    same-length-4
-    returns-2
-    step-requires
-    add-h
-    loop-less
-    loop-again
-    same-length-5
-    same-length-6
-    returns-3)
+    returns-2)

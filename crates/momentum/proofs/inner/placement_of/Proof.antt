@@ -1,5 +1,5 @@
 -- `inner::placement_of` meets its contract: the path of the group is found, and taken.
-use mathlib.Core.Path.{_≡_, refl, _∙_}
+use mathlib.Core.Path.{refl, _∙_}
 use native.Mathlib.Omega.{arith}
 use Rattle.rotation.proofs.Packs.{fresh-length}
 use borrow.Author.Needs.{needs}

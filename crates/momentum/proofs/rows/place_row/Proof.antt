@@ -1,5 +1,5 @@
 -- `rows::place_row` meets its contract: a row in full is the word itself (`row-stands`), and one of the old form is widened.
-use mathlib.Core.Path.{_≡_, sym, ap, subst, _∙_}
+use mathlib.Core.Path.{sym, ap, subst, _∙_}
 use mathlib.Core.List.{List}
 use Prim.Native.Nat.{ℕ}
 use native.Mathlib.Omega.{arith}

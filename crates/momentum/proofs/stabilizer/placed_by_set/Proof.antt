@@ -1,5 +1,5 @@
 -- `stabilizer::placed_by_set` meets its contract: the candidates decide, and the word follows from the decision's numbers (`placed-least`, `placed-zeros`).
-use mathlib.Core.Path.{_≡_, sym, _∙_}
+use mathlib.Core.Path.{sym, _∙_}
 use denote.Ref.{now}
 use borrow.Author.Needs.{needs}
 use Rattle.elements.specs.HeldGroup.{generatorsIn}

@@ -1,5 +1,5 @@
 -- `stabilizer::placed_by_step` meets its contract: the step's numerator decides (`ByStep`).
-use mathlib.Core.Path.{_≡_, sym, _∙_}
+use mathlib.Core.Path.{sym, _∙_}
 use denote.Ref.{now}
 use borrow.Author.Needs.{needs}
 use Rattle.elements.specs.HeldGroup.{generatorsIn}
