@@ -1,5 +1,5 @@
 // The kinds of lines, by their names: those that put something in force, from ORDER on those that ask,
-// from SHEET on the sheets, from CLEAR on the sums, and from PHASE_TABLE on the phase tables.
+// from SHEET on the sheets, from CLEAR on the sums, from PHASE_TABLE on the phase tables, and from WORDS on the words of rows.
 use crate::fields;
 
 pub const GROUP: usize = 0;
@@ -94,13 +94,21 @@ pub const PHASE_FILE: usize = 44;
 
 pub const PHASE: usize = 45;
 
+pub const WORDS: usize = 46;
+
+pub const WORDS_AT: usize = 47;
+
+pub const SECTOR_WORDS: usize = 48;
+
+pub const SECTOR_WORDS_AT: usize = 49;
+
 // The kind of a name; a number above all kinds where there is none.
 pub fn of(name: &[u8]) -> usize {
     let names = b" group chain ladder torus2 torus3 set word bytes old modes orbit next order \
         modulus invert targets text weight compare compare_text canonicalize with_index \
         orbit_list numerator table counter with_shift sector beside sheet sheet_end sheet_in \
         clear row rows whole wholes numbered old_rows sum sum_at project project_at phase_table \
-        phase_file phase";
+        phase_file phase words words_at sector_words sector_words_at";
     place(name, names)
 }
 
@@ -144,9 +152,11 @@ pub fn has_form(kind: usize, count: usize) -> bool {
         | SECTOR
         | BESIDE
         | PHASE => count == 1,
-        LADDER | TORUS2 | COUNTER | SUM_AT | PROJECT_AT => count == 2,
+        LADDER | TORUS2 | COUNTER | SUM_AT | PROJECT_AT | WORDS_AT | SECTOR_WORDS_AT => count == 2,
         TORUS3 => count == 3,
         SUM | PROJECT => count == 0 || count == 5,
+        WORDS => count == 0 || count == 3,
+        SECTOR_WORDS => count == 0 || count == 4,
         _ => true,
     }
 }

@@ -85,6 +85,10 @@ fn of_kind(
             s
         }
         kinds::PHASE_TABLE..=kinds::PHASE => phased(s, kind, rest, args),
+        kinds::WORDS..=kinds::SECTOR_WORDS_AT => {
+            answer_rows(s, kind, args, words);
+            s
+        }
         _ => s.other(),
     }
 }
@@ -202,4 +206,18 @@ fn summed(s: State, kind: usize, args: Args, words: &[u8], coefficients: &[f64],
             wholes,
         );
     }
+}
+
+// The lines that ask for the least words of the rows, or for what the modes make of them.
+fn answer_rows(s: State, kind: usize, args: Args, words: &[u8]) {
+    let modes = s.modes.list;
+    case_words::answer(
+        s.group,
+        sectors::front(&modes, s.modes.count),
+        s.word.n,
+        s.rows,
+        kind,
+        args,
+        words,
+    );
 }

@@ -70,6 +70,17 @@
 // | `project W R P C S`             | the same with lists of these lengths: bytes of words,     | likewise                                           |
 // |                                 | coefficients, bytes of representatives, cosines, sines    |                                                    |
 // | `project_at A B`                | as `project`                                              | of the lists the rows A to B - 1, zeros too        |
+// | `words`                         | canonicalize_words, on the words of the rows              | `N rows:` and ` LETTERS INDEX` for each; or        |
+// |                                 |                                                           | REFUSED and `, as they were` or `, changed`        |
+// | `words W P I`                   | the same with lists of these lengths: bytes of words,     | likewise                                           |
+// |                                 | bytes of representatives, places of indices               |                                                    |
+// | `words_at A B`                  | as `words`                                                | of the lists the rows A to B - 1                   |
+// | `sector_words`                  | sector_words, on the words of the rows                    | `N rows:` and ` LETTERS INDEX SIZE` for each, of a |
+// |                                 |                                                           | dropped one ` - INDEX 0`, and LETTERS where its    |
+// |                                 |                                                           | word is not zeros; or REFUSED as for `words`       |
+// | `sector_words W P I S`          | the same with lists of these lengths: as for `words`,     | likewise                                           |
+// |                                 | and places of sizes                                       |                                                    |
+// | `sector_words_at A B`           | as `sector_words`                                         | of the lists the rows A to B - 1                   |
 // | `sheet TEXT`                    | sheet_text; in TEXT `|` is byte 10, `\HH` a byte in       | what the sheet prints, `|` for byte 10             |
 // |                                 | hexadecimal, `{K:TEXT}` K times TEXT                      |                                                    |
 // | `sheet_end TEXT`                | the same                                                  | the lengths of the sheet and of what it prints,    |

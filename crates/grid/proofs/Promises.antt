@@ -62,7 +62,7 @@ module _ {n : ℕ} {gs : List Generator} (v : Valid n gs) (grid : Grid n gs) whe
 -- one bit more, for a set in one machine word or in several: those without the bit are left, if there are some; else all stay
 pub left-struck : {o t : ℕ} {F : ℕ → ℕ → Bool} {S M T : ℕ → Bool} → Left o F t S → ((k : ℕ) → k < o → M k ≡ F k t) → ((k : ℕ) → T k ≡ (S k && not (M k)))
     → (k : ℕ) → T k ≡ true → Left o F (suc t) T
-left-struck l m e k h = Refining.left-struck l m _ e k h
+left-struck l m e k h = Refining.left-struck l m e k h
 
 pub left-none : {o t : ℕ} {F : ℕ → ℕ → Bool} {S M : ℕ → Bool} → Left o F t S → ((k : ℕ) → k < o → M k ≡ F k t) → ((k : ℕ) → (S k && not (M k)) ≡ false)
     → Left o F (suc t) S

@@ -78,6 +78,17 @@ pub fn digits_are(list: &[u32], value: u32) -> bool {
     true
 }
 
+pub fn numbers_are(list: &[usize], value: usize) -> bool {
+    let mut i = 0;
+    while i < list.len() {
+        if list[i] != value {
+            return false;
+        }
+        i += 1;
+    }
+    true
+}
+
 pub fn wholes_are(list: &[i64], value: i64) -> bool {
     let mut i = 0;
     while i < list.len() {
