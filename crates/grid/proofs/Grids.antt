@@ -63,11 +63,11 @@ pub axis-round : {place order stride rest : ℕ} → 0 < place → 0 < order →
 axis-round {place} {order} {stride} {rest} apart some e round = record {
   whole = rw round (mod-self (place * order));
   shifts = λ q.
-    let h : q < suc q = omega arith in
-    ap₂ (λ (s b : ℕ). rotated s b q) e round
-    ∙ sym (target-rotation (suc q) place (place * order) q h)
-    ∙ ap (λ (p : List ℕ). target p q) (sym (shift-rotates (suc q) place order apart some))
-    ∙ target-shift (suc q) place order q h;
+      let h : q < suc q = omega arith in
+      ap₂ (λ (s b : ℕ). rotated s b q) e round
+      ∙ sym (target-rotation (suc q) place (place * order) q h)
+      ∙ ap (λ (p : List ℕ). target p q) (sym (shift-rotates (suc q) place order apart some))
+      ∙ target-shift (suc q) place order q h;
 }
 
 -- where a shift takes the first site of a place
@@ -149,9 +149,9 @@ module _ {k n : ℕ} {targets orders : List ℕ} (t : Tables k n targets orders)
       some = λ g h. omega (arith, s .each g h .blocks .inside);
       small = λ g h. s .each g h .blocks .small;
       whole = λ g h.
-        let b : ℕ = getD strides g 0 + getD rests g 0 in
-        let one : b ∣ product (take (suc g) orders) = rw (orders-next g h) (dvd-of-mod-eq-zero b (each g h .whole)) in
-        mod-eq-zero-of-dvd b (dvd-trans b one (orders-divide (suc g) h));
+          let b : ℕ = getD strides g 0 + getD rests g 0 in
+          let one : b ∣ product (take (suc g) orders) = rw (orders-next g h) (dvd-of-mod-eq-zero b (each g h .whole)) in
+          mod-eq-zero-of-dvd b (dvd-trans b one (orders-divide (suc g) h));
       shifts = λ g h. each g h .shifts;
     }
 

@@ -64,12 +64,13 @@ module _ (n : ℕ) (x z x′ z′ : ℕ → Bool) where
       high : n ≤ q → less (lettersBy n x z) (lettersBy n x′ z′) ≡ true
       high k =
           let e : n + (q - n) ≡ q = omega arith in
-          less-by-z n x z x′ z′ (λ p o. low-same q s p (omega arith) o)
-          (q - n,
-          omega arith,
-          (λ p o. high-same q s p (omega arith)),
-          sym (joint-high n x z (q - n)) ∙ ap (joint n x z) e ∙ a,
-          sym (joint-high n x′ z′ (q - n)) ∙ ap (joint n x′ z′) e ∙ b)
+          less-by-z n x z x′ z′ (λ p o. low-same q s p (omega arith) o) (
+            q - n,
+            omega arith,
+            (λ p o. high-same q s p (omega arith)),
+            sym (joint-high n x z (q - n)) ∙ ap (joint n x z) e ∙ a,
+            sym (joint-high n x′ z′ (q - n)) ∙ ap (joint n x′ z′) e ∙ b,
+          )
 
   -- words with the same bits are the same
   joint-same : ((p : ℕ) → p < n + n → joint n x z p ≡ joint n x′ z′ p) → lettersBy n x z ≡ lettersBy n x′ z′
@@ -166,9 +167,10 @@ module _ {n : ℕ} {gs : List Generator} (v : Valid n gs) (w : Word) (e : length
   pub leading-back : S (indexBack gs w) ≡ true
   unfolding indexBack
   leading-back =
-      leading-exactly (inverse gs (forward gs w)) .1
-      (inverse-below gs positive (forward gs w),
-      ap (λ (i : ℕ). reach gs i w) (back-back (forward gs w) (forward-below v w)) ∙ forward-reaches v w)
+      leading-exactly (inverse gs (forward gs w)) .1 (
+        inverse-below gs positive (forward gs w),
+        ap (λ (i : ℕ). reach gs i w) (back-back (forward gs w) (forward-below v w)) ∙ forward-reaches v w,
+      )
 
   -- whose inverse is the smallest index that reaches the least word
   pub leading-forward : inverse gs (indexBack gs w) ≡ forward gs w
@@ -198,10 +200,11 @@ module _ {n : ℕ} {gs : List Generator} (v : Valid n gs) (w : Word) (e : length
 
       there : fixes gs w (add gs k f) ≡ true → S k ≡ true
       there t =
-          leading-exactly k .1
-          (h,
-          ap (reach gs (inverse gs k)) (sym (fixes-elim gs w (add gs k f) t) ∙ both)
-          ∙ reach-inverse v k (least gs w) (least-length v w ∙ e))
+          leading-exactly k .1 (
+            h,
+            ap (reach gs (inverse gs k)) (sym (fixes-elim gs w (add gs k f) t) ∙ both)
+                ∙ reach-inverse v k (least gs w) (least-length v w ∙ e),
+          )
 
       back : S k ≡ true → fixes gs w (add gs k f) ≡ true
       back t =
@@ -232,10 +235,11 @@ module _ {n : ℕ} {gs : List Generator} (v : Valid n gs) (w : Word) (e : length
       back i m t =
           let h : i < o = of-member-below o i m in
           let k : ℕ = add gs i (inverse gs f) in
-          let r : add gs k f ≡ i = add-redo gs positive i f h in
-          (member-below o k (add-below gs positive i (inverse gs f)),
-          sym (leading-fixes k (add-below gs positive i (inverse gs f))) ∙ ap (fixes gs w) r ∙ t,
-          r)
+          let r : add gs k f ≡ i = add-redo gs positive i f h in (
+            member-below o k (add-below gs positive i (inverse gs f)),
+            sym (leading-fixes k (add-below gs positive i (inverse gs f))) ∙ ap (fixes gs w) r ∙ t,
+            r,
+          )
 
   -- ---- a candidate that leads alone
 

@@ -78,8 +78,8 @@ module _ (x : ℕ) (some : x ≡ 0 → ⊥) (fits : x < 2 ^ wordBits) (alone : b
 
   pub alone-first : (j : ℕ) → bitAt x j ≡ eqb j (trailingZeros wordBits x)
   alone-first j = by-equal j first
-    (λ e. ap (bitAt x) e ∙ first-bit x some fits .1 ∙ sym (eq-eqb j first e))
-    (λ d. by-order first j
+      (λ e. ap (bitAt x) e ∙ first-bit x some fits .1 ∙ sym (eq-eqb j first e))
+      (λ d. by-order first j
       (λ l. let e : suc first + (j - suc first) ≡ j = omega arith in ap (bitAt x) (sym e) ∙ above-first (j - suc first))
       (λ l. ap (λ (r : ℕ). eqb r 1) (trailing-low wordBits x j l))
       ∙ sym (ne-eqb j first d))

@@ -61,8 +61,8 @@ module _ {o : ℕ} {F : ℕ → ℕ → Bool} {t : ℕ} {S M : ℕ → Bool} (l 
     inside = λ k a. l .inside k (old k a);
     some = (k₀, e₀);
     ties = λ j k a b p g. by-equal p t
-      (λ d. subst (λ (q : ℕ). F j q ≡ F k q) (sym d) (zero j a ∙ sym (zero k b)))
-      (λ d. l .ties j k (old j a) (old k b) p (omega arith));
+        (λ d. subst (λ (q : ℕ). F j q ≡ F k q) (sym d) (zero j a ∙ sym (zero k b)))
+        (λ d. l .ties j k (old j a) (old k b) p (omega arith));
     rest = λ j k a g b. apart j k a g b (S k) refl;
   }
     where
@@ -120,5 +120,5 @@ module _ {o : ℕ} {F : ℕ → ℕ → Bool} {t : ℕ} {S : ℕ → Bool} (l : 
     some = l .some;
     ties = λ j k a b p g. sym (e j p (l .inside j a) g) ∙ l .ties j k a b p g ∙ e k p (l .inside k b) g;
     rest = λ j k a g b. same-less t (G j) (F j) (G k) (λ p q. sym (e j p (l .inside j a) q))
-      (less-same t (F j) (F k) (G k) (l .rest j k a g b) (λ p q. e k p g q));
+        (less-same t (F j) (F k) (G k) (l .rest j k a g b) (λ p q. e k p g q));
   }

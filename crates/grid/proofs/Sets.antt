@@ -107,7 +107,7 @@ pub between-more : (f : ℕ → Bool) (ws : List ℕ) (i : ℕ) → WordOf f i (
 between-more f ws i w b q l h =
     by-order (wordBits * i) q
     (λ m. let r : wordBits * i + q % wordBits ≡ q = omega arith in
-      subst (λ (p : ℕ). bitOf ws p ≡ f p) r (bitOf-word ws i (q % wordBits) (omega arith) ∙ w (q % wordBits) (omega arith)))
+    subst (λ (p : ℕ). bitOf ws p ≡ f p) r (bitOf-word ws i (q % wordBits) (omega arith) ∙ w (q % wordBits) (omega arith)))
     (b q l)
 
 -- the first bit of a word is in the set
@@ -123,14 +123,14 @@ one-bit b j h = by-order b j above (λ m. bit-shl-low 1 wordBits b j h m ∙ sym
   where
     above : b ≤ j → bitAt (1 * 2 ^ b % 2 ^ wordBits) j ≡ eqb j b
     above m = bit-shl 1 wordBits b j h m ∙ by-equal j b
-      (λ e. let z : j - b ≡ 0 = omega arith in ap (bitAt 1) z ∙ sym (eq-eqb j b e))
-      (λ e. bit-past 1 1 (j - b) (omega arith) (omega arith) ∙ sym (ne-eqb j b e))
+        (λ e. let z : j - b ≡ 0 = omega arith in ap (bitAt 1) z ∙ sym (eq-eqb j b e))
+        (λ e. bit-past 1 1 (j - b) (omega arith) (omega arith) ∙ sym (ne-eqb j b e))
 
 -- the word that has it
 pub alone-here : (k i : ℕ) → i ≡ k / wordBits → WordOf (λ q. eqb q k) i (1 * 2 ^ (k % wordBits) % 2 ^ wordBits)
 alone-here k i e j h = one-bit (k % wordBits) j h ∙ by-equal j (k % wordBits)
-  (λ d. eq-eqb j (k % wordBits) d ∙ sym (eq-eqb (wordBits * i + j) k (omega arith)))
-  (λ d. ne-eqb j (k % wordBits) d ∙ sym (ne-eqb (wordBits * i + j) k (λ g. d (omega arith))))
+    (λ d. eq-eqb j (k % wordBits) d ∙ sym (eq-eqb (wordBits * i + j) k (omega arith)))
+    (λ d. ne-eqb j (k % wordBits) d ∙ sym (ne-eqb (wordBits * i + j) k (λ g. d (omega arith))))
 
 -- the other words
 pub alone-other : (k i : ℕ) → (i ≡ k / wordBits → ⊥) → WordOf (λ q. eqb q k) i 0
@@ -139,8 +139,8 @@ alone-other k i d j h = bit-zero j ∙ sym (ne-eqb (wordBits * i + j) k (λ g. d
 -- words that have the bits of a set of one, as many as reach it, have no others
 pub alone-whole : (ws : List ℕ) (k i : ℕ) → k < wordBits * length ws → length ws ≤ i → Between (λ q. eqb q k) 0 i ws → (j : ℕ) → bitOf ws j ≡ eqb j k
 alone-whole ws k i h l b j = by-order (wordBits * length ws) j
-  (λ m. bitOf-past ws j m ∙ sym (ne-eqb j k (λ e. omega arith)))
-  (λ m. b j (omega arith) (omega arith))
+    (λ m. bitOf-past ws j m ∙ sym (ne-eqb j k (λ e. omega arith)))
+    (λ m. b j (omega arith) (omega arith))
 
 -- words without a bit hold no candidate
 pub none-whole : (ws : List ℕ) (i : ℕ) → length ws ≤ i → Between (λ q. false) 0 i ws → (j : ℕ) → bitOf ws j ≡ false

@@ -7,7 +7,6 @@ ghost use lib.ListN.{length};
 ghost use Rattle.packed.specs.Packed.{wordBits, planeWords, bitAt, bitOf};
 ghost use Rattle.grid.specs.Candidates.{Left};
 ghost use Rattle.grid.specs.Stages.{AloneIn};
-
 use packed::WORD_BITS;
 
 // What a round of striking out comes to.
@@ -109,7 +108,11 @@ pub fn first_of(left: &[u64]) -> usize
 pub fn alone_word(k: usize, i: usize) -> u64
     ensures { λ r. ⌜ ((j : ℕ) → j < wordBits → bitAt r j ≡ eqb (wordBits * i + j) k) ⌝ }
 {
-    if i == k / WORD_BITS { 1u64 << (k % WORD_BITS) } else { 0 }
+    if i == k / WORD_BITS {
+        1u64 << (k % WORD_BITS)
+    } else {
+        0
+    }
 }
 
 // Whether k alone is in a set.

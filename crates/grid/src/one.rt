@@ -49,7 +49,11 @@ pub fn round_word(before: u64, after: u64) -> Round
 pub fn turn(mask: u64, x: u64, s: usize, t: usize) -> u64
     ensures { λ r. ⌜ ((k : ℕ) → k < wordBits → bitAt r k ≡ cond (bitAt mask k) (not (ltb k s) && bitAt x (k - s)) (bitAt x (k + t))) ⌝ }
 {
-    packed::shift::pick(mask, packed::shift::lifted(x, s), packed::shift::lowered(x, t))
+    packed::shift::pick(
+        mask,
+        packed::shift::lifted(x, s),
+        packed::shift::lowered(x, t),
+    )
 }
 
 // The lowest digit of a number in base o, without a division at generator 0, where it is at hand.

@@ -49,7 +49,7 @@ pub enum Refusal {
     CounterLength,
     // 21: a lent list of another length than needed.
     ListLength,
-    // 22: lists of a sum that disagree in rows, or a word list of another number of bytes a row.
+    // 22: lists of a sum or of many words that disagree in rows, or a word list of another number of bytes a row.
     SumLists,
     // 23: more rows than there may be.
     TooManyRows,

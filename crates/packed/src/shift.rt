@@ -14,6 +14,7 @@ const PADDED_WORDS: usize = 3 * PLANE_WORDS + 1;
 
 // Planes of so few words have room of their own, which takes less to clear.
 const FEW_WORDS: usize = 8;
+
 const FEW_PADDED: usize = 3 * FEW_WORDS + 1;
 
 // A word with every bit set.
@@ -169,14 +170,7 @@ pub fn pad_words(plane: &[u64], before: usize, pad: &mut [u64])
 }
 
 // Word by word, each bit of a plane that stands behind `before` words of zeros, from s below it where keep has it, and from t above it elsewhere.
-pub fn turn_padded(
-    pad: &[u64],
-    before: usize,
-    keep: &[u64],
-    s: usize,
-    t: usize,
-    plane: &mut [u64],
-)
+pub fn turn_padded(pad: &[u64], before: usize, keep: &[u64], s: usize, t: usize, plane: &mut [u64])
     requires { ⌜ (length (now plane) ≤ before) × (length (now keep) ≡ length (now plane)) × (length (now pad) ≡ 3 * before + 1) × (before ≤ planeWords) ⌝ }
     requires { ⌜ (s ≤ wordBits * before) × (t ≤ wordBits * before) ⌝ }
     ensures { λ _. ⌜ ((q : ℕ) → q < wordBits * length (now (plane .entry)) → bitOf (now (plane .exit)) q ≡ cond (bitOf (now (keep .entry)) q) (bitOf (now (pad .entry)) (wordBits * before + q - s)) (bitOf (now (pad .entry)) (wordBits * before + q + t))) ⌝ }

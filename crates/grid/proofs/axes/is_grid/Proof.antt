@@ -51,8 +51,7 @@ is-axis-requires : tie.Need-is-axis-requires Inv-loop μ-loop
 is-axis-requires c κs =
     let s = c .before .before .before .before .before .before .before .before .before in
     let l = c .before .before .before .before .loop in
-    let more = c .before .before .before .loop-test .taken in
-    (
+    let more = c .before .before .before .loop-test .taken in (
       rw (l .inv .1) (place-positive (s .pre .0) (l .g) (omega (arith, more))),
       order-positive-at (s .pre .0) (l .g) more,
       rw (l .inv .1) (place-times (s .pre .0) (l .g) more),
@@ -80,8 +79,7 @@ loop-again c =
     let s = c .before .before .before .before .before .before .before .before .before .before .before in
     let l = c .before .before .before .before .before .before .loop in
     let more = c .before .before .before .before .before .loop-test .taken in
-    let axis = c .before .is-axis .ensures (not-false (c .before .is-axis .result) (c .if1 .left)) in
-    (
+    let axis = c .before .is-axis .ensures (not-false (c .before .is-axis .result) (c .if1 .left)) in (
       omega (arith, more),
       ap (λ (p : ℕ). p * getD (s .args .orders .now) (l .g) 0) (l .inv .1) ∙ sym (place-next (s .pre .0) (l .g) more),
       below-more _ (l .g) (l .inv .2) (rw (l .inv .1) at axis),

@@ -79,7 +79,6 @@ add-if1 c =
     let l = c .before .before .before .before .before .before .before .loop in
     omega (arith, c .digit-at .ensures, mod-lt (l .digits) (some (c .before .before .before .before .before .before)), c .before .shared-slice-known9 .given (l .g))
 
-
 returns : tie.Need-returns Inv-loop μ-loop
 returns c =
     let s = c .before .before .before .before .before .before .before .before .before .before .before .before .before .before in

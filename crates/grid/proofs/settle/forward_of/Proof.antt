@@ -41,12 +41,13 @@ loop-less c = omega (arith, c .before .before .before .loop-test .taken)
 loop-again : tie.Need-loop-again Inv-loop μ-loop
 loop-again c =
     let l = c .before .before .before .before .loop in
-    let own = sym (c .before .holds .ensures) in
-    (omega (arith, c .before .before .before .loop-test .taken),
-    ⊎-elim
-    (λ w. smallest-in (l .inv .1) (own ∙ w .0 .taken) (w .3 ∙ w .2 .ensures ∙ ap (λ (i : ℕ). min i (l .best)) (w .1 .ensures)))
-    (λ w. rw (w .1) (smallest-out (l .inv .1) (own ∙ w .0 .left)))
-    (c .if2 .came))
+    let own = sym (c .before .holds .ensures) in (
+      omega (arith, c .before .before .before .loop-test .taken),
+      ⊎-elim
+          (λ w. smallest-in (l .inv .1) (own ∙ w .0 .taken) (w .3 ∙ w .2 .ensures ∙ ap (λ (i : ℕ). min i (l .best)) (w .1 .ensures)))
+          (λ w. rw (w .1) (smallest-out (l .inv .1) (own ∙ w .0 .left)))
+          (c .if2 .came),
+    )
 
 returns-2 : tie.Need-returns-2 Inv-loop μ-loop
 returns-2 c =

@@ -87,7 +87,7 @@ rotate-kept-requires c κs =
       (omega (arith, on .few, long), lent-length (t .few) (on .kept) (l .g) more ∙ sym long),
       (
         (block-some t (s .pre .1 .0) on (l .g) more, omega arith, block-whole t (s .pre .1 .0) on (l .g) more, rw long (on .room)),
-        (l .inv .2, block-keep t (s .pre .1 .0) on (l .g) more)
+        (l .inv .2, block-keep t (s .pre .1 .0) on (l .g) more),
       ),
     )
 
