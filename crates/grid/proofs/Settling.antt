@@ -1,4 +1,5 @@
 -- Candidates whose words are compared one after the other: what one more says of the best so far and of those that give it, and that at the end these lead.
+-- What two that give the same word say of others: their difference fixes the word, and candidates that differ by such an index give the same.
 -- And the smallest index that reaches the least word, by the inverses of the candidates that lead.
 use Prim.Native.Nat.{ℕ, _+_, _*_, _/_, _%_, _<_, _≤_, min}
 use mathlib.Core.Path.{_≡_, refl, sym, _∙_, ap, ap₂, subst}
@@ -17,9 +18,10 @@ use Rattle.pauli_word.specs.Word.{Word, same, less}
 use Rattle.pauli_word.specs.Calls.{orderOfWords}
 use Rattle.pauli_word.proofs.WordOrder.{same-refl, same-eq, less-irrefl, less-trans, less-total}
 use Rattle.action.specs.Permutation.{Generator, Valid}
-use Rattle.action.specs.Index.{orderOf, inverse}
-use Rattle.action.specs.Orbit.{forward, indexBack}
-use Rattle.action.proofs.Reach.{reach-length}
+use Rattle.action.specs.Index.{orderOf, add, inverse}
+use Rattle.action.specs.Orbit.{reach, forward, indexBack}
+use Rattle.action.proofs.Index.{add-comm}
+use Rattle.action.proofs.Reach.{reach-length, reach-zero, reach-add, reach-inverse, reach-of-inverse}
 use Rattle.action.proofs.Canonical.{forward-below, back-below}
 use Rattle.elements.proofs.LeastSoFar.{order-less, order-not-less, order-same, order-not-same}
 use Rattle.packed.specs.Packed.{wordBits, bitAt, bitOf}
@@ -28,7 +30,7 @@ use Rattle.packed.proofs.Shifts.{bit-or, at-word}
 use Rattle.rotation.specs.Rotation.{led}
 use Rattle.cyclic.proofs.BitOrder.{by-equal, by-order}
 use Rattle.grid.specs.Candidates.{candidate, Among, Leading}
-use Rattle.grid.specs.Weighing.{found, Weighed}
+use Rattle.grid.specs.Weighing.{found, shifted, Weighed, Knows}
 use Rattle.grid.proofs.Leads.{leading-back, leading-forward, leading-first}
 
 -- ---- sets
@@ -135,6 +137,10 @@ module _ {gs : List Generator} {w u : Word} {S F : ℕ → Bool} {k : ℕ} (h : 
                 by-equal j k (λ e. own j ∙ ap (λ (b : Bool). b || F j) (eq-eqb j k e))
                 (λ e. own j ∙ ap (λ (b : Bool). eqb j k || b) (h .exactly j .1 (omega arith, t, d)) ∙ or-true (eqb j k))
 
+    -- so it is where it is known to give the best
+    pub weighed-tie : candidate gs w k ≡ u → {F′ : ℕ → Bool} → ((j : ℕ) → F′ j ≡ (eqb j k || F j)) → Weighed gs w S (k + 1) u F′
+    weighed-tie c = weighed-same (ap (λ (v : Word). less v u) c ∙ less-irrefl u) c
+
     -- and not if it gives a greater one
     weighed-greater : less (candidate gs w k) u ≡ false → (candidate gs w k ≡ u → ⊥) → {F′ : ℕ → Bool} → ((j : ℕ) → F′ j ≡ F j) → Weighed gs w S (k + 1) u F′
     weighed-greater l n {F′} own = record { given = h .given; none = none-more l; exactly = exactly }
@@ -173,6 +179,67 @@ module _ {gs : List Generator} {w u : Word} {S F : ℕ → Bool} {k : ℕ} (h : 
             apart c =
                 false≢true
                 (sym (order-not-same v u (λ l. let z : _≡_ {A = ℕ} 0 1 = cc in omega arith)) ∙ ap (λ (x : Word). same x u) (e ∙ c) ∙ same-refl u)
+
+-- ---- indices that fix the word
+
+module _ {n : ℕ} {gs : List Generator} (v : Valid n gs) {w : Word} (e : length w ≡ n) where
+  -- candidates that differ by such an index give the same word
+  pub shift-same : (k s : ℕ) → reach gs s w ≡ w → candidate gs w (add gs k s) ≡ candidate gs w k
+  shift-same k s f = sym (reach-inverse v k c long) ∙ ap (reach gs (inverse gs k)) there
+    where
+      c : Word
+      c = candidate gs w (add gs k s)
+
+      long : length c ≡ n
+      long = reach-length gs (inverse gs (add gs k s)) w ∙ e
+
+      there : reach gs k c ≡ w
+      there =
+          sym (reach-inverse v s (reach gs k c) (reach-length gs k c ∙ long))
+          ∙ ap (reach gs (inverse gs s)) (sym (reach-add v k s c long) ∙ reach-of-inverse v (add gs k s) w e ∙ sym f)
+          ∙ reach-inverse v s w e
+
+  -- the difference of two that give the same word is one
+  pub tie-fixes : (j k : ℕ) → candidate gs w j ≡ candidate gs w k → reach gs (add gs j (inverse gs k)) w ≡ w
+  tie-fixes j k t =
+      ap (λ (i : ℕ). reach gs i w) (add-comm gs j (inverse gs k))
+      ∙ reach-add v (inverse gs k) j w e
+      ∙ ap (reach gs j) (sym t)
+      ∙ reach-of-inverse v j w e
+
+  -- a candidate that leads, or is a shift away from one that is found, gives the best word
+  pub knows-tie : {u : Word} {S F : ℕ → Bool} {k lead shift : ℕ} → Knows gs w u lead shift → Weighed gs w S k u F
+      → (eqb k lead || F (add gs k shift)) ≡ true → candidate gs w k ≡ u
+  knows-tie {u} {S} {F} {k} {lead} {shift} known h t = go (either (eqb k lead) (F (add gs k shift)) t)
+    where
+      go : (eqb k lead ≡ true) ⊎ (F (add gs k shift) ≡ true) → candidate gs w k ≡ u
+      go (inl l) = ap (candidate gs w) (eqb-true k lead l) ∙ known .leads
+      go (inr f) = sym (shift-same k shift (known .fixed)) ∙ h .exactly (add gs k shift) .0 f .2
+
+  -- what is known after one more is compared with the best so far
+  pub knows-next : {u c u′ : Word} (k : ℕ) {lead shift lead′ shift′ : ℕ} {o : Ordering} → Knows gs w u lead shift → c ≡ candidate gs w k → o ≡ orderOfWords c u
+      → u′ ≡ led (orderOfWords c u) c u → lead′ ≡ led o k lead → shift′ ≡ shifted o (add gs lead (inverse gs k)) shift → Knows gs w u′ lead′ shift′
+  knows-next {u} {c} {u′} k {lead} {shift} {lead′} {shift′} {o} known a t b l s =
+      go o (sym t) (b ∙ ap (λ (p : Ordering). led p c u) (sym t)) l s
+    where
+      long : length c ≡ length u
+      long = ap length a ∙ reach-length gs (inverse gs k) w ∙ sym (reach-length gs (inverse gs lead) w) ∙ ap length (known .leads)
+
+      moved : (i : ℕ) → i ≡ shift → reach gs i w ≡ w
+      moved i d = ap (λ (p : ℕ). reach gs p w) d ∙ known .fixed
+
+      go : (p : Ordering) → orderOfWords c u ≡ p → u′ ≡ led p c u → lead′ ≡ led p k lead → shift′ ≡ shifted p (add gs lead (inverse gs k)) shift
+          → Knows gs w u′ lead′ shift′
+      go Less q x y z = record { leads = ap (candidate gs w) y ∙ sym a ∙ sym x; fixed = moved shift′ z }
+      go Same q x y z = record {
+        leads = ap (candidate gs w) y ∙ known .leads ∙ sym x;
+        fixed = ap (λ (p : ℕ). reach gs p w) z ∙ tie-fixes lead k (known .leads ∙ sym (same-eq c u (order-same c u long q)) ∙ a);
+      }
+      go Greater q x y z = record { leads = ap (candidate gs w) y ∙ known .leads ∙ sym x; fixed = moved shift′ z }
+
+-- before any is weighed the shift is 0
+pub knows-start : {gs : List Generator} {w u : Word} {lead : ℕ} → candidate gs w lead ≡ u → Knows gs w u lead 0
+knows-start {gs} {w} c = record { leads = c; fixed = reach-zero gs w }
 
 -- where all are weighed, those that were found lead
 pub weighed-leading : {gs : List Generator} {w u : Word} {S F : ℕ → Bool} → Among gs w S → Weighed gs w S (orderOf gs) u F → Leading gs w F

@@ -1,4 +1,5 @@
-// Candidates that bits do not tell apart soon: the word is moved to each that is left, and the words are compared. And what the candidates that lead say.
+// Candidates that bits do not tell apart soon: the word is moved to each that is left, and the words are compared. Two that give the same word differ by an
+// index that fixes the word, and with it most of the others that give it are told without a move. And what the candidates that lead say.
 ghost use mathlib.Core.Path.{_≡_};
 ghost use mathlib.Core.Bool.{true, false, _||_};
 ghost use Prim.Native.Nat.{ℕ, _+_, _*_, _≤_, _<_};
@@ -6,17 +7,23 @@ ghost use lib.Dec.{eqb};
 ghost use lib.ListN.{length};
 ghost use Rattle.pauli_word.specs.Word.{Word};
 ghost use Rattle.pauli_word.specs.Calls.{orderOfWords};
-ghost use Rattle.action.specs.Index.{orderOf};
+ghost use Rattle.action.specs.Index.{orderOf, add as addOf, inverse};
 ghost use Rattle.action.specs.Orbit.{forward};
 ghost use Rattle.elements.specs.HeldGroup.{generatorsIn, Tables};
 ghost use Rattle.packed.specs.Packed.{wordBits, planeWords, bitOf, lettersAt};
 ghost use Rattle.rotation.specs.Rotation.{Shapes, Planes, led};
 ghost use Rattle.grid.specs.Candidates.{candidate, Among, Leading};
-ghost use Rattle.grid.specs.Weighing.{found as foundBy, Weighed};
+ghost use Rattle.grid.specs.Weighing.{found as foundBy, shifted, Weighed, Knows};
 use crate::candidates;
 use packed::PLANE_WORDS;
 use packed::WORD_BITS;
 use pauli_word::Ordering;
+
+// What the candidates weighed so far say of the next ones: one that gives the best word, and an index that fixes the word.
+pub struct Known {
+    pub lead: usize,
+    pub shift: usize,
+}
 
 // Puts k into a set.
 pub fn put(k: usize, set: &mut [u64])
@@ -75,7 +82,7 @@ pub fn give(
 }
 
 // Compares the word at hand, which candidate k gives, with the best so far: if it is less, it becomes the best and k alone is found; if it is the same, k is
-// found too.
+// found too. How the two compare.
 pub fn weigh(
     u: &[u64],
     v: &[u64],
@@ -84,12 +91,13 @@ pub fn weigh(
     xs: &mut [u64],
     zs: &mut [u64],
     found: &mut [u64],
-)
+) -> Ordering
     requires { ⌜ (length (now v) ≡ length (now zs)) × (k < wordBits * length (now found)) ⌝ }
     requires { ⌜ Planes sites (length (now xs)) (now u) (now v) ⌝ }
     requires { ⌜ Planes sites (length (now xs)) (now xs) (now zs) ⌝ }
     ensures planes { λ _. ⌜ Planes sites (length (now (xs .entry))) (now (xs .exit)) (now (zs .exit)) ⌝ }
     ensures letters { λ _. ⌜ lettersAt sites (now (xs .exit)) (now (zs .exit)) ≡ led (orderOfWords (lettersAt sites (now (u .entry)) (now (v .entry))) (lettersAt sites (now (xs .entry)) (now (zs .entry)))) (lettersAt sites (now (u .entry)) (now (v .entry))) (lettersAt sites (now (xs .entry)) (now (zs .entry))) ⌝ }
+    ensures told { λ r. ⌜ r ≡ orderOfWords (lettersAt sites (now (u .entry)) (now (v .entry))) (lettersAt sites (now (xs .entry)) (now (zs .entry))) ⌝ }
     ensures found { λ _. ⌜ ((j : ℕ) → bitOf (now (found .exit)) j ≡ foundBy (orderOfWords (lettersAt sites (now (u .entry)) (now (v .entry))) (lettersAt sites (now (xs .entry)) (now (zs .entry)))) (eqb j k) (bitOf (now (found .entry)) j)) ⌝ }
 {
     match rotation::planes::order_of(u, v, xs, zs, sites) {
@@ -97,15 +105,69 @@ pub fn weigh(
             packed::words::copy(u, xs);
             packed::words::copy(v, zs);
             put_alone(k, found);
+            Ordering::Less
         }
         Ordering::Same => {
             put(k, found);
+            Ordering::Same
         }
-        Ordering::Greater => {}
+        Ordering::Greater => Ordering::Greater,
     }
 }
 
-// Weighs candidate k if it is left. u and v are room for the word that it gives; xs and zs hold the best so far, found those that give it.
+// Whether candidate k is known to give the best word without a move: it leads, or one that is found is a shift away.
+pub fn is_known(
+    targets: &[u16],
+    orders: &[u32],
+    generators: usize,
+    sites: usize,
+    k: usize,
+    known: Known,
+    found: &[u64],
+) -> bool
+    requires { ⌜ Tables generators sites (now targets) (now orders) ⌝ }
+    ensures { λ r. ⌜ r ≡ (eqb k (known .lead) || bitOf (now (found .entry)) (addOf (generatorsIn generators sites (now (targets .entry)) (now (orders .entry))) k (known .shift))) ⌝ }
+{
+    let lead = known.lead;
+    if k == lead {
+        return true;
+    }
+    let shift = known.shift;
+    let index = elements::index::add(targets, orders, generators, sites, k, shift);
+    candidates::holds(found, index)
+}
+
+// What is known after candidate k was weighed: one that gives a lesser word leads, and the difference of two that give the same fixes the word.
+pub fn learn(
+    targets: &[u16],
+    orders: &[u32],
+    generators: usize,
+    sites: usize,
+    told: Ordering,
+    k: usize,
+    known: Known,
+) -> Known
+    requires { ⌜ Tables generators sites (now targets) (now orders) ⌝ }
+    ensures lead { λ r. ⌜ r .lead ≡ led told k (known .lead) ⌝ }
+    ensures shift { λ r. ⌜ r .shift ≡ shifted told (addOf (generatorsIn generators sites (now (targets .entry)) (now (orders .entry))) (known .lead) (inverse (generatorsIn generators sites (now (targets .entry)) (now (orders .entry))) k)) (known .shift) ⌝ }
+{
+    let lead = known.lead;
+    match told {
+        Ordering::Less => Known {
+            lead: k,
+            shift: known.shift,
+        },
+        Ordering::Same => {
+            let back = elements::index::invert(targets, orders, generators, sites, k);
+            let shift = elements::index::add(targets, orders, generators, sites, lead, back);
+            Known { lead, shift }
+        }
+        Ordering::Greater => known,
+    }
+}
+
+// Weighs candidate k if it is left, without a move where it is known to give the best word. u and v are room for the word that it gives; xs and zs hold the
+// best so far, found those that give it.
 pub fn weigh_next(
     targets: &[u16],
     orders: &[u32],
@@ -117,23 +179,30 @@ pub fn weigh_next(
     z: &[u64],
     left: &[u64],
     k: usize,
+    known: Known,
     u: &mut [u64],
     v: &mut [u64],
     xs: &mut [u64],
     zs: &mut [u64],
     found: &mut [u64],
-)
+) -> Known
     requires { ⌜ Tables generators sites (now targets) (now orders) ⌝ }
     requires { ⌜ Shapes generators sites (now targets) (now strides) (now rests) ⌝ }
     requires { ⌜ Planes sites (length (now x)) (now x) (now z) × Planes sites (length (now x)) (now xs) (now zs) ⌝ }
     requires { ⌜ (length (now u) ≡ length (now x)) × (length (now v) ≡ length (now z)) × (length (now zs) ≡ length (now z)) ⌝ }
     requires { ⌜ k < wordBits * length (now found) ⌝ }
     requires { ⌜ Weighed (generatorsIn generators sites (now targets) (now orders)) (lettersAt sites (now x) (now z)) (bitOf (now left)) k (lettersAt sites (now xs) (now zs)) (bitOf (now found)) ⌝ }
+    requires { ⌜ Knows (generatorsIn generators sites (now targets) (now orders)) (lettersAt sites (now x) (now z)) (lettersAt sites (now xs) (now zs)) (known .lead) (known .shift) ⌝ }
     ensures planes { λ _. ⌜ Planes sites (length (now (x .entry))) (now (xs .exit)) (now (zs .exit)) ⌝ }
     ensures weighed { λ _. ⌜ Weighed (generatorsIn generators sites (now (targets .entry)) (now (orders .entry))) (lettersAt sites (now (x .entry)) (now (z .entry))) (bitOf (now (left .entry))) (k + 1) (lettersAt sites (now (xs .exit)) (now (zs .exit))) (bitOf (now (found .exit))) ⌝ }
+    ensures known { λ r. ⌜ Knows (generatorsIn generators sites (now (targets .entry)) (now (orders .entry))) (lettersAt sites (now (x .entry)) (now (z .entry))) (lettersAt sites (now (xs .exit)) (now (zs .exit))) (r .lead) (r .shift) ⌝ }
 {
     if !candidates::holds(left, k) {
-        return;
+        return known;
+    }
+    if is_known(targets, orders, generators, sites, k, known, found) {
+        put(k, found);
+        return known;
     }
     give(
         targets,
@@ -148,10 +217,11 @@ pub fn weigh_next(
         u,
         v,
     );
-    weigh(u, v, sites, k, xs, zs, found);
+    let told = weigh(u, v, sites, k, xs, zs, found);
+    learn(targets, orders, generators, sites, told, k, known)
 }
 
-// Weighs all candidates that are left, from the first on.
+// Weighs all candidates that are left, from 0 on. The best word before is the one that candidate first gives.
 pub fn weigh_all(
     targets: &[u16],
     orders: &[u32],
@@ -163,6 +233,7 @@ pub fn weigh_all(
     x: &[u64],
     z: &[u64],
     left: &[u64],
+    first: usize,
     u: &mut [u64],
     v: &mut [u64],
     xs: &mut [u64],
@@ -175,11 +246,16 @@ pub fn weigh_all(
     requires { ⌜ (length (now u) ≡ length (now x)) × (length (now v) ≡ length (now z)) × (length (now zs) ≡ length (now z)) ⌝ }
     requires { ⌜ order ≤ wordBits * length (now found) ⌝ }
     requires { ⌜ Weighed (generatorsIn generators sites (now targets) (now orders)) (lettersAt sites (now x) (now z)) (bitOf (now left)) 0 (lettersAt sites (now xs) (now zs)) (bitOf (now found)) ⌝ }
+    requires { ⌜ candidate (generatorsIn generators sites (now targets) (now orders)) (lettersAt sites (now x) (now z)) first ≡ lettersAt sites (now xs) (now zs) ⌝ }
     ensures { λ _. ⌜ Weighed (generatorsIn generators sites (now (targets .entry)) (now (orders .entry))) (lettersAt sites (now (x .entry)) (now (z .entry))) (bitOf (now (left .entry))) order (lettersAt sites (now (xs .exit)) (now (zs .exit))) (bitOf (now (found .exit))) ⌝ }
 {
+    let mut known = Known {
+        lead: first,
+        shift: 0,
+    };
     let mut k = 0;
     while k < order {
-        weigh_next(
+        known = weigh_next(
             targets,
             orders,
             generators,
@@ -190,6 +266,7 @@ pub fn weigh_all(
             z,
             left,
             k,
+            known,
             u,
             v,
             xs,
@@ -254,6 +331,7 @@ pub fn settle_in(
         x,
         z,
         left,
+        k,
         u,
         v,
         xs,

@@ -72,7 +72,7 @@ pub fn character_table(group: Group, modes: &[i32], list: &mut [usize]) -> Verdi
 // Whether modes keep a word: dropped exactly if some index that fixes it has a numerator other than 0. A kept word comes with the least word of
 // its orbit, the counter of the index that leads from there back to the word, into a list with a place for each generator, and the orbit size; a
 // dropped one with the smallest such index, and the list stays.
-// One traversal of the group, up to the first index that drops the word.
+// On a grid the indices that lead to the least word tell it; else one traversal of the group, up to the first index that drops the word.
 pub fn canonicalize_in_sector(
     group: Group,
     n: usize,

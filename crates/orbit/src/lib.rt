@@ -59,7 +59,7 @@ pub struct Stepped {
     pub walk: Walk,
 }
 
-// The least word of a word's orbit. Walks the whole orbit.
+// The least word of a word's orbit.
 pub fn canonicalize(group: Group, n: usize, word: &[u8]) -> Canonical
     ensures answer { λ r. ⌜ outcomeOfVerdict (r .answer) ≡ onAnswer done (canonicalizeOutcome group n (now (word .entry))) ⌝ }
     ensures word { λ r. ⌜ r .word ≡ orElse bytesOf noWord (canonicalizeOutcome group n (now (word .entry))) ⌝ }

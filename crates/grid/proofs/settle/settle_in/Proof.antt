@@ -1,5 +1,5 @@
 -- `settle::settle_in` meets its contract: the first candidate that is left is the best before any is weighed, and those that are found when all are lead.
-use mathlib.Core.Path.{_∙_}
+use mathlib.Core.Path.{sym, _∙_}
 use native.Mathlib.Omega.{arith}
 use Rattle.grid.proofs.Settling.{none-bit, weighed-start, weighed-leading}
 use borrow.Author.Needs.{needs}
@@ -29,12 +29,12 @@ weigh-all-requires c κs =
     let first = c .before .before .before .before .before .before .before .before .before .before .before .before .before .before .before .before .before .first-of in
     let long = s .pre .1 .1 .1 .1 .0 in
     let start = weighed-start (first .result) (first .ensures .1 (a .some .0) (a .some .1)) (g .ensures .1) (λ j. f .ensures j ∙ none-bit j) in
-    (s .pre .0, (s .pre .1 .1 .0, ((s .pre .1 .1 .1 .0, g .ensures .0), ((long .0, long .1, g .kept .1 .1 .1 .1 .1 .1 .1 .1 .1 .1 .0 ∙ s .pre .1 .1 .1 .1 .1 .0 .1), (omega (arith, f .kept .1 .1 .0, s .pre .1 .1 .1 .1 .1 .0 .2, s .pre .1 .1 .1 .1 .1 .1 .0 .0), start)))))
+    (s .pre .0, (s .pre .1 .1 .0, ((s .pre .1 .1 .1 .0, g .ensures .0), ((long .0, long .1, g .kept .1 .1 .1 .1 .1 .1 .1 .1 .1 .1 .0 ∙ s .pre .1 .1 .1 .1 .1 .0 .1), (omega (arith, f .kept .1 .1 .0, s .pre .1 .1 .1 .1 .1 .0 .2, s .pre .1 .1 .1 .1 .1 .1 .0 .0), (start, sym (g .ensures .1)))))))
 
 copy-requires : tie.Need-copy-requires
 copy-requires c κs =
     let s = c .before .before .before .before .before .before .before .before .before .before .before .before .before .before .before .before .before .before .before .before .before .before .before .before .before .before .before .before .before .before .before .before .before .before .before .before .before .before .before .before .before .before .before .before in
-    c .before .before .before .before .before .before .before .before .before .before .before .before .weigh-all .kept .1 .1 .1 .1 .1 .1 .1 .1 .1 .1 .1 .1 .1 .1 .0 ∙ c .before .before .before .before .before .before .before .before .before .before .before .before .before .before .before .before .before .before .before .before .before .fill-run .kept .1 .1 .0 ∙ s .pre .1 .1 .1 .1 .1 .0 .2
+    c .before .before .before .before .before .before .before .before .before .before .before .before .weigh-all .kept .1 .1 .1 .1 .1 .1 .1 .1 .1 .1 .1 .1 .1 .1 .1 .0 ∙ c .before .before .before .before .before .before .before .before .before .before .before .before .before .before .before .before .before .before .before .before .before .fill-run .kept .1 .1 .0 ∙ s .pre .1 .1 .1 .1 .1 .0 .2
 
 same-length : tie.Need-same-length
 same-length c = search needs

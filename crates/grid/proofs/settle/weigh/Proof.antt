@@ -1,4 +1,4 @@
--- `settle::weigh` meets its contract: each answer of the comparison is a case of what is kept and found.
+-- `settle::weigh` meets its contract: each answer of the comparison is a case of what is kept, found and told.
 use mathlib.Core.Path.{refl, sym, ap₂, _∙_}
 use Rattle.packed.specs.Packed.{lettersAt}
 use borrow.Author.Needs.{needs}
@@ -44,7 +44,7 @@ returns c =
     let least = sym (c .before .before .before .before .before .before .before .before .before .before .before .before .before .before .order-of .ensures) ∙ c .before .before .before .before .before .before .before .before .before .before .before .before .enum-told .given .1 in
     let x = c .before .before .before .before .before .before .before .before .before .before .copy .ensures in
     let z = c .before .before .before .before .before .before .copy2 .ensures in
-    rw least (rw (x, z) (s .pre .1 .0), (ap₂ (lettersAt (s .args .sites)) x z, c .before .before .put-alone .ensures))
+    rw least (rw (x, z) (s .pre .1 .0), (ap₂ (lettersAt (s .args .sites)) x z, (refl, c .before .before .put-alone .ensures)))
 
 same-length-4 : tie.Need-same-length-4
 same-length-4 c = search needs
@@ -59,7 +59,7 @@ returns-2 : tie.Need-returns-2
 returns-2 c =
     let s = c .before .before .before .before .before .before .before .before .before .before .before .before .before .before in
     let least = sym (c .before .before .before .before .before .before .order-of .ensures) ∙ c .before .before .before .before .enum-told2 .given .1 in
-    rw least (s .pre .1 .1, (refl, c .before .before .put .ensures))
+    rw least (s .pre .1 .1, (refl, (refl, c .before .before .put .ensures)))
 
 same-length-7 : tie.Need-same-length-7
 same-length-7 c = search needs
@@ -71,7 +71,7 @@ returns-3 : tie.Need-returns-3
 returns-3 c =
     let s = c .before .before .before .before .before .before .before .before .before .before in
     let least = sym (c .before .before .order-of .ensures) ∙ c .enum-told3 .given .1 in
-    rw least (s .pre .1 .1, (refl, λ j. refl))
+    rw least (s .pre .1 .1, (refl, (refl, λ j. refl)))
 
 pub weigh-spec : {M : Type 1} → statement M
 weigh-spec =
