@@ -49,7 +49,7 @@ count-few p (a ∷ xs) = go (p a) (count-few p xs)
     go false h = omega arith
 
 module _ (p : ℕ → Bool) (i : ℕ) where
-  count-next : count p (below (i + 1)) ≡ count p (below i) + cond (p i) 1 0
+  pub count-next : count p (below (i + 1)) ≡ count p (below i) + cond (p i) 1 0
   unfolding count
   count-next = ap (count p) (below-next i) ∙ count-append p (below i) (i ∷ []) ∙ omega arith
 
