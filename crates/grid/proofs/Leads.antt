@@ -30,6 +30,9 @@ use Rattle.cyclic.proofs.BitOrder.{by-order}
 use Rattle.cyclic.proofs.Keys.{less-by-x, less-by-z}
 use Rattle.grid.specs.Grid.{Grid, further}
 use Rattle.grid.specs.Candidates.{candidate, candidateBit, Left, Among, Leading}
+use Rattle.grid.specs.Stages.{isTired, Staged}
+use Rattle.grid.specs.declared.refine.Stage.{Stage}
+use Rattle.grid.specs.declared.refine.Stage.the-variants.{Alone, Through, Tired}
 use Rattle.grid.proofs.Numbers.{candidate-letters}
 
 -- ---- words by all their bits, the X bits of n sites and then the Z bits
@@ -106,6 +109,17 @@ among-alone {gs} {w} {S} k a e = record { among = a; ties = λ i j p q. ap (cand
     own i p = eqb-true i k (sym (e i) ∙ p)
 
 -- ---- what the candidates that lead say
+
+-- where refining stopped, those that are left lead, or are among those that may
+pub staged-leads : (r : Stage) {gs : List Generator} {w : Word} {S : ℕ → Bool} → isTired r ≡ false → Staged r gs w S → Leading gs w S
+staged-leads (Alone k) e s = s .0
+staged-leads Through e s = s
+staged-leads Tired e s = absurd (true≢false e)
+
+pub staged-among : (r : Stage) {gs : List Generator} {w : Word} {S : ℕ → Bool} → isTired r ≡ true → Staged r gs w S → Among gs w S
+staged-among (Alone k) e s = absurd (true≢false (sym e))
+staged-among Through e s = absurd (true≢false (sym e))
+staged-among Tired e s = s
 
 -- of two words not both are less
 pub not-both : (u v : Word) → less u v ≡ true → less v u ≡ false

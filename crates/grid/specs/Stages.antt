@@ -1,7 +1,7 @@
 -- What is known of the candidates that are left when refining stops.
 use Prim.Native.Nat.{ℕ, _≤_}
 use mathlib.Core.Path.{_≡_}
-use mathlib.Core.Bool.{Bool}
+use mathlib.Core.Bool.{Bool, true, false}
 use mathlib.Core.List.{List}
 use lib.Dec.{eqb}
 use Rattle.pauli_word.specs.Word.{Word}
@@ -15,6 +15,12 @@ use Rattle.grid.specs.Candidates.{Left, Among, Leading}
 -- how many rounds in a row may strike out no candidate
 abbrev pub patience : ℕ
 patience = 16
+
+-- whether refining stopped before its end
+abbrev pub isTired : Stage → Bool
+isTired (Alone k) = false
+isTired Through = false
+isTired Tired = true
 
 -- of a round: the one that is left
 abbrev pub AloneIn : Round → (ℕ → Bool) → Type 0

@@ -21,6 +21,14 @@ pub struct Stopped {
     pub stage: Stage,
 }
 
+impl Stopped {
+    pub fn new(left: u64, stage: Stage) -> Self
+        ensures { λ r. ⌜ (r .left ≡ left) × (r .stage ≡ stage) ⌝ }
+    {
+        Stopped { left, stage }
+    }
+}
+
 // Of those left, the ones without a bit here, if there are some, else all.
 pub fn strike_word(at: u64, left: u64) -> u64
     ensures left { λ r. ⌜ ((o t : ℕ) (F : ℕ → ℕ → Bool) → Left o F t (bitAt left) → ((k : ℕ) → k < o → bitAt at k ≡ F k t) → Left o F (suc t) (bitAt r)) ⌝ }
@@ -144,17 +152,11 @@ pub fn refine_word(
         let told = round_word(kept, next);
         kept = next;
         if let Round::Alone(k) = told {
-            return Stopped {
-                left: kept,
-                stage: Stage::Alone(k),
-            };
+            return Stopped::new(kept, Stage::Alone(k));
         }
         stale = refine::waited(told, stale);
         if PATIENCE < stale {
-            return Stopped {
-                left: kept,
-                stage: Stage::Tired,
-            };
+            return Stopped::new(kept, Stage::Tired);
         }
         here = step_word(
             targets,
@@ -172,8 +174,5 @@ pub fn refine_word(
         low = next_digit(low, first);
         h += 1;
     }
-    Stopped {
-        left: kept,
-        stage: Stage::Through,
-    }
+    Stopped::new(kept, Stage::Through)
 }

@@ -9,7 +9,7 @@ ghost use Rattle.packed.specs.Packed.{wordBits, planeWords, bitOf, Clear, lette
 ghost use Rattle.rotation.specs.Rotation.{Shapes, Planes};
 ghost use Rattle.grid.specs.Grid.{Grid, further, Steps};
 ghost use Rattle.grid.specs.Candidates.{Left};
-ghost use Rattle.grid.specs.Stages.{patience, Refined, Staged};
+ghost use Rattle.grid.specs.Stages.{patience, isTired, Refined, Staged};
 use crate::block;
 use crate::candidates;
 use crate::candidates::Round;
@@ -28,6 +28,19 @@ pub enum Stage {
     Through,
     // Many rounds in a row struck out none.
     Tired,
+}
+
+impl Stage {
+    // Whether refining stopped before its end with more than one left.
+    pub fn is_tired(self) -> bool
+        ensures { λ r. ⌜ r ≡ isTired self ⌝ }
+    {
+        match self {
+            Stage::Alone(_) => false,
+            Stage::Through => false,
+            Stage::Tired => true,
+        }
+    }
 }
 
 // How many rounds in a row struck out none, after one more.

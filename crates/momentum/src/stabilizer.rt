@@ -11,7 +11,7 @@ ghost use Rattle.action.specs.Sector.{modulus as modulusOf};
 ghost use Rattle.elements.specs.HeldGroup.{generatorsIn, Tables};
 ghost use Rattle.packed.specs.Packed.{wordBits, planeWords, bitOf};
 ghost use Rattle.grid.specs.Candidates.{Leading};
-ghost use Rattle.paths.specs.Paths.{Ready, Taken, wordsOf, ByStep};
+ghost use Rattle.paths.specs.Paths.{Ready, Taken, wordsOf, ByStep, Says};
 ghost use mathlib.Core.Bool.{true};
 ghost use Rattle.orbit.specs.Calls.{noWord};
 ghost use Rattle.momentum.specs.Parts.{testOf, placementOf};
@@ -302,8 +302,73 @@ pub fn placed_by_traversal(
     answer
 }
 
-// The decision, by the path that the group takes, and the least word into a list, or zeros where the word is dropped: a word that index 0 alone fixes is
-// kept, and what is known of the other fixing indices decides all others; where nothing is, the traversal does.
+// The decision, by what is known of the indices that fix the word: a word that index 0 alone fixes is kept, and where nothing is known the traversal decides.
+// `out` holds the least word, to which `back` is the index back.
+pub fn placed_by(
+    fixing: Fixing,
+    back: usize,
+    targets: &[u16],
+    orders: &[u32],
+    generators: usize,
+    sites: usize,
+    order: usize,
+    m: usize,
+    modes: &[i32],
+    word: &[u8],
+    left: &[u64],
+    out: &mut [u8],
+) -> Placement
+    requires { ⌜ Tables generators sites (now targets) (now orders) ⌝ }
+    requires { ⌜ order ≡ orderOf (generatorsIn generators sites (now targets) (now orders)) ⌝ }
+    requires { ⌜ m ≡ modulusOf (generatorsIn generators sites (now targets) (now orders)) ⌝ }
+    requires { ⌜ length (now modes) ≡ generators ⌝ }
+    requires { ⌜ AcceptedWord sites (now word) ⌝ }
+    requires { ⌜ now out ≡ bytesOf (least (generatorsIn generators sites (now targets) (now orders)) (lettersIn sites (now word))) ⌝ }
+    requires { ⌜ back ≡ indexBack (generatorsIn generators sites (now targets) (now orders)) (lettersIn sites (now word)) ⌝ }
+    requires { ⌜ Says fixing (generatorsIn generators sites (now targets) (now orders)) (lettersIn sites (now word)) (now left) ⌝ }
+    ensures answer { λ r. ⌜ r ≡ placementOf (decision (generatorsIn generators sites (now (targets .entry)) (now (orders .entry))) (now (modes .entry)) (lettersIn sites (now (word .entry)))) ⌝ }
+    ensures word { λ _. ⌜ now (out .exit) ≡ rowWord (decision (generatorsIn generators sites (now (targets .entry)) (now (orders .entry))) (now (modes .entry)) (lettersIn sites (now (word .entry)))) ⌝ }
+{
+    match fixing {
+        Fixing::Free => Placement::Kept(back, order),
+        Fixing::Multiples(step) => placed_by_step(
+            targets,
+            orders,
+            generators,
+            sites,
+            m,
+            modes,
+            step,
+            back,
+            out,
+        ),
+        Fixing::Leading => placed_by_set(
+            targets,
+            orders,
+            generators,
+            sites,
+            order,
+            m,
+            modes,
+            left,
+            back,
+            out,
+        ),
+        Fixing::Many => placed_by_traversal(
+            targets,
+            orders,
+            generators,
+            sites,
+            order,
+            m,
+            modes,
+            word,
+            out,
+        ),
+    }
+}
+
+// The decision, by the path that the group takes, and the least word into a list, or zeros where the word is dropped.
 pub fn placed_into(
     path: Path,
     targets: &[u16],
@@ -345,41 +410,18 @@ pub fn placed_into(
         out,
     );
     let fixing = led.fixing;
-    match fixing {
-        Fixing::Free => Placement::Kept(led.index, order),
-        Fixing::Multiples(step) => placed_by_step(
-            targets,
-            orders,
-            generators,
-            sites,
-            m,
-            modes,
-            step,
-            led.index,
-            out,
-        ),
-        Fixing::Leading => placed_by_set(
-            targets,
-            orders,
-            generators,
-            sites,
-            order,
-            m,
-            modes,
-            left,
-            led.index,
-            out,
-        ),
-        Fixing::Many => placed_by_traversal(
-            targets,
-            orders,
-            generators,
-            sites,
-            order,
-            m,
-            modes,
-            word,
-            out,
-        ),
-    }
+    placed_by(
+        fixing,
+        led.index,
+        targets,
+        orders,
+        generators,
+        sites,
+        order,
+        m,
+        modes,
+        word,
+        left,
+        out,
+    )
 }

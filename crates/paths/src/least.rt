@@ -16,6 +16,7 @@ ghost use Rattle.permutation.specs.Generators.{rowAt};
 ghost use Rattle.rotation.specs.Rotation.{Rotates, Shapes, Planes};
 ghost use Rattle.grid.specs.Grid.{Steps};
 ghost use Rattle.grid.specs.Candidates.{Among, Leading};
+ghost use Rattle.grid.specs.Stages.{Staged};
 ghost use Rattle.paths.specs.Paths.{Taken, wordsOf, Says};
 use crate::plan::Path;
 use grid::refine::Stage;
@@ -287,6 +288,125 @@ pub fn when_tired(
     )
 }
 
+// The least word where more than one candidate may be left, by where refining stopped.
+pub fn by_many(
+    stage: Stage,
+    targets: &[u16],
+    orders: &[u32],
+    generators: usize,
+    sites: usize,
+    strides: &[usize],
+    rests: &[usize],
+    order: usize,
+    word: &[u8],
+    x: &mut [u64],
+    z: &mut [u64],
+    left: &mut [u64],
+    out: &mut [u8],
+) -> Led
+    requires { ⌜ Tables generators sites (now targets) (now orders) ⌝ }
+    requires { ⌜ Shapes generators sites (now targets) (now strides) (now rests) ⌝ }
+    requires { ⌜ order ≡ orderOf (generatorsIn generators sites (now targets) (now orders)) ⌝ }
+    requires { ⌜ AcceptedWord sites (now word) × ((lettersAt sites (now x) (now z)) ≡ lettersIn sites (now word)) ⌝ }
+    requires { ⌜ Planes sites (length (now x)) (now x) (now z) × (length (now z) ≡ length (now x)) ⌝ }
+    requires { ⌜ (order ≤ wordBits * length (now left)) × (length (now left) ≤ planeWords) ⌝ }
+    requires { ⌜ Staged stage (generatorsIn generators sites (now targets) (now orders)) (lettersAt sites (now x) (now z)) (bitOf (now left)) ⌝ }
+    requires { ⌜ length (now out) ≡ wordLength ⌝ }
+    ensures word { λ _. ⌜ now (out .exit) ≡ bytesOf (leastOf (generatorsIn generators sites (now (targets .entry)) (now (orders .entry))) (lettersIn sites (now (word .entry)))) ⌝ }
+    ensures index { λ r. ⌜ r .index ≡ indexBack (generatorsIn generators sites (now (targets .entry)) (now (orders .entry))) (lettersIn sites (now (word .entry))) ⌝ }
+    ensures fixing { λ r. ⌜ Says (r .fixing) (generatorsIn generators sites (now (targets .entry)) (now (orders .entry))) (lettersIn sites (now (word .entry))) (now (left .exit)) ⌝ }
+{
+    if stage.is_tired() {
+        return when_tired(
+            targets,
+            orders,
+            generators,
+            sites,
+            strides,
+            rests,
+            order,
+            word,
+            x,
+            z,
+            left,
+            out,
+        );
+    }
+    by_leading(
+        targets,
+        orders,
+        generators,
+        sites,
+        strides,
+        rests,
+        order,
+        left,
+        x,
+        z,
+        out,
+    )
+}
+
+// The least word by where refining stopped.
+pub fn by_stage(
+    stage: Stage,
+    targets: &[u16],
+    orders: &[u32],
+    generators: usize,
+    sites: usize,
+    strides: &[usize],
+    rests: &[usize],
+    order: usize,
+    word: &[u8],
+    x: &mut [u64],
+    z: &mut [u64],
+    left: &mut [u64],
+    out: &mut [u8],
+) -> Led
+    requires { ⌜ Tables generators sites (now targets) (now orders) ⌝ }
+    requires { ⌜ Shapes generators sites (now targets) (now strides) (now rests) ⌝ }
+    requires { ⌜ order ≡ orderOf (generatorsIn generators sites (now targets) (now orders)) ⌝ }
+    requires { ⌜ AcceptedWord sites (now word) × ((lettersAt sites (now x) (now z)) ≡ lettersIn sites (now word)) ⌝ }
+    requires { ⌜ Planes sites (length (now x)) (now x) (now z) × (length (now z) ≡ length (now x)) ⌝ }
+    requires { ⌜ (order ≤ wordBits * length (now left)) × (length (now left) ≤ planeWords) ⌝ }
+    requires { ⌜ Staged stage (generatorsIn generators sites (now targets) (now orders)) (lettersAt sites (now x) (now z)) (bitOf (now left)) ⌝ }
+    requires { ⌜ length (now out) ≡ wordLength ⌝ }
+    ensures word { λ _. ⌜ now (out .exit) ≡ bytesOf (leastOf (generatorsIn generators sites (now (targets .entry)) (now (orders .entry))) (lettersIn sites (now (word .entry)))) ⌝ }
+    ensures index { λ r. ⌜ r .index ≡ indexBack (generatorsIn generators sites (now (targets .entry)) (now (orders .entry))) (lettersIn sites (now (word .entry))) ⌝ }
+    ensures fixing { λ r. ⌜ Says (r .fixing) (generatorsIn generators sites (now (targets .entry)) (now (orders .entry))) (lettersIn sites (now (word .entry))) (now (left .exit)) ⌝ }
+{
+    let Stage::Alone(k) = stage else {
+        return by_many(
+            stage,
+            targets,
+            orders,
+            generators,
+            sites,
+            strides,
+            rests,
+            order,
+            word,
+            x,
+            z,
+            left,
+            out,
+        );
+    };
+    by_one(
+        targets,
+        orders,
+        generators,
+        sites,
+        strides,
+        rests,
+        k,
+        left,
+        x,
+        z,
+        out,
+    )
+}
+
 // The least word on a grid, with planes to work in.
 pub fn in_planes(
     targets: &[u16],
@@ -328,48 +448,21 @@ pub fn in_planes(
         z,
         left,
     );
-    match stage {
-        Stage::Alone(k) => by_one(
-            targets,
-            orders,
-            generators,
-            sites,
-            strides,
-            rests,
-            k,
-            left,
-            x,
-            z,
-            out,
-        ),
-        Stage::Through => by_leading(
-            targets,
-            orders,
-            generators,
-            sites,
-            strides,
-            rests,
-            order,
-            left,
-            x,
-            z,
-            out,
-        ),
-        Stage::Tired => when_tired(
-            targets,
-            orders,
-            generators,
-            sites,
-            strides,
-            rests,
-            order,
-            word,
-            x,
-            z,
-            left,
-            out,
-        ),
-    }
+    by_stage(
+        stage,
+        targets,
+        orders,
+        generators,
+        sites,
+        strides,
+        rests,
+        order,
+        word,
+        x,
+        z,
+        left,
+        out,
+    )
 }
 
 // The least word on a grid.

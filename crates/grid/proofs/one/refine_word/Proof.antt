@@ -42,16 +42,28 @@ round-word-requires c κs = c .strike-word .ensures .1
 enum-known-told : tie.Need-enum-known-told Inv-loop μ-loop
 enum-known-told c = search needs
 
+new-requires : tie.Need-new-requires Inv-loop μ-loop
+new-requires c κs = tt
+
 returns : tie.Need-returns Inv-loop μ-loop
 returns c =
-    let r = c .before .before .before .before .strike-word in
-    along-alone (c .before .before .before .before .before .before .loop .inv .2) (c .before .before .before .before .before .loop-test .taken) (bitAt (r .result)) (r .ensures .0) (c .before .told .given .0 .0) (rw (c .before .told .given .1) at (c .before .before .before .round-word .ensures))
+    let b = c .before in
+    let r = b .before .before .before .before .strike-word in
+    rw (c .new .ensures .1, c .new .ensures .0)
+    (along-alone (b .before .before .before .before .before .before .loop .inv .2) (b .before .before .before .before .before .loop-test .taken) (bitAt (r .result)) (r .ensures .0) (b .before .told .given .0 .0) (rw (b .before .told .given .1) at (b .before .before .before .round-word .ensures)))
 
 waited-requires : tie.Need-waited-requires Inv-loop μ-loop
 waited-requires c κs = c .before .before .before .before .loop .inv .2 .few
 
+new-requires-2 : tie.Need-new-requires-2 Inv-loop μ-loop
+new-requires-2 c κs = tt
+
 returns-2 : tie.Need-returns-2 Inv-loop μ-loop
-returns-2 c = let r = c .before .before .before .before .strike-word in along-tired (c .before .before .before .before .before .before .loop .inv .2) (c .before .before .before .before .before .loop-test .taken) (bitAt (r .result)) (r .ensures .0)
+returns-2 c =
+    let b = c .before in
+    let r = b .before .before .before .before .strike-word in
+    rw (c .new2 .ensures .1, c .new2 .ensures .0)
+    (along-tired (b .before .before .before .before .before .before .loop .inv .2) (b .before .before .before .before .before .loop-test .taken) (bitAt (r .result)) (r .ensures .0))
 
 step-word-requires : tie.Need-step-word-requires Inv-loop μ-loop
 step-word-requires c κs =
@@ -80,8 +92,11 @@ loop-again c =
       along-next (l .inv .2) (c .before .before .before .before .before .before .before .loop-test .taken) (bitAt (r .result)) (r .ensures .0) (bitAt (t .result)) (omega (arith, c .before .before .if1 .left)) (t .ensures .0) (t .ensures .1),
     )
 
+new-requires-3 : tie.Need-new-requires-3 Inv-loop μ-loop
+new-requires-3 c κs = tt
+
 returns-3 : tie.Need-returns-3 Inv-loop μ-loop
-returns-3 c = along-end (c .before .loop .inv .2) (c .loop-test .left)
+returns-3 c = rw (c .new3 .ensures .1, c .new3 .ensures .0) (along-end (c .before .before .loop .inv .2) (c .before .loop-test .left))
 
 pub refine-word-spec : {M : Type 1} → statement M
 refine-word-spec =
@@ -95,12 +110,15 @@ refine-word-spec =
     strike-word-requires
     round-word-requires
     enum-known-told
+    new-requires
     returns
     waited-requires
+    new-requires-2
     returns-2
     step-word-requires
     next-digit-requires
     add-h
     loop-less
     loop-again
+    new-requires-3
     returns-3)
