@@ -116,7 +116,7 @@ fn measure_many(report: fn(&Measured)) {
     for (name, lattice) in LATTICES.into_iter().chain([WIDE]) {
         let group = groups::accepted(lattice);
         for (kind, words) in bulk::kinds(&mut random, lattice) {
-            for call in Call::BOTH {
+            for call in Call::ALL {
                 let times = in_turn([bulk::ours(call, &group, &words), bulk::rust(call, &group, &words)]);
                 report(&measured(&format!("{name}, {kind}"), &group, call.name(), times));
             }

@@ -21,24 +21,34 @@ const MASKED_BYTES: usize = 128;
 pub enum Call {
     /// `canonicalize_words`, and the Rust's `canonicalize_with_index`.
     Words,
-    /// `sector_words`, and the Rust's `canonicalize_in_sector`, with all modes 0.
-    SectorWords,
+    /// `sector_words`, and the Rust's `canonicalize_in_sector`, with this mode for each generator.
+    SectorWords(i32),
 }
 
 impl Call {
-    pub const BOTH: [Call; 2] = [Call::Words, Call::SectorWords];
+    pub const BOTH: [Call; 2] = [Call::Words, Call::SectorWords(0)];
+    pub const ALL: [Call; 3] = [Call::Words, Call::SectorWords(0), Call::SectorWords(1)];
 
     pub fn name(self) -> &'static str {
         match self {
             Call::Words => "canonicalize_words",
-            Call::SectorWords => "sector_words",
+            Call::SectorWords(0) => "sector_words",
+            Call::SectorWords(_) => "sector_words, modes 1",
+        }
+    }
+
+    /// The mode for each generator; calls without modes have none to read.
+    fn mode(self) -> i32 {
+        match self {
+            Call::Words => 0,
+            Call::SectorWords(mode) => mode,
         }
     }
 
     pub fn rust_name(self) -> &'static str {
         match self {
             Call::Words => "canonicalize_with_index",
-            Call::SectorWords => "canonicalize_in_sector",
+            Call::SectorWords(_) => "canonicalize_in_sector",
         }
     }
 }
@@ -100,11 +110,11 @@ fn rows(words: &[String]) -> Vec<u8> {
 pub fn ours<'a>(call: Call, group: &TranslationGroup, words: &[String]) -> Side<'a> {
     let (value, number, rows) = (value_of(group), words.len(), rows(words));
     let (mut representatives, mut indices, mut sizes) = (vec![0; rows.len()], vec![0; number], vec![0; number]);
-    let modes = vec![0; group.n_generators()];
+    let modes = vec![call.mode(); group.n_generators()];
     Side::of(number, move || {
         timed(|| match call {
             Call::Words => canonicalize_words(&value, &rows, &mut representatives, &mut indices),
-            Call::SectorWords => sector_words(&value, &modes, &rows, &mut representatives, &mut indices, &mut sizes),
+            Call::SectorWords(_) => sector_words(&value, &modes, &rows, &mut representatives, &mut indices, &mut sizes),
         })
     })
 }
@@ -131,12 +141,12 @@ pub fn rust<'a>(call: Call, group: &'a TranslationGroup, words: &[String]) -> Si
 
 fn rust_of<'a, const N: usize>(call: Call, group: &'a TranslationGroup, words: &[String]) -> Side<'a> {
     let words: Vec<PauliWord<[u8; N]>> = words.iter().map(|word| word.as_str().into()).collect();
-    let modes = vec![0; group.n_generators()];
+    let modes = vec![call.mode(); group.n_generators()];
     match call {
         Call::Words => Side::whole_round(words, |word| {
             black_box(group.canonicalize_with_index(word));
         }),
-        Call::SectorWords => Side::whole_round(words, move |word| {
+        Call::SectorWords(_) => Side::whole_round(words, move |word| {
             black_box(group.canonicalize_in_sector(word, &modes));
         }),
     }
