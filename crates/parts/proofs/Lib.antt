@@ -1,0 +1,9 @@
+-- The laws of the definitions: `Joined` of indices of the whole by those of the parts, `Bitwise` of the first bit where two words differ, `Independent` of
+-- what the parts make of a word, `Sectors` of how many indices fix it, and which modes keep it or what drops it.
+pub mod Joined
+pub mod Bitwise
+pub mod Independent
+pub mod Sectors
+pub mod Carried
+pub mod Labelled
+pub mod Promises
