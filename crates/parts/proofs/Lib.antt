@@ -6,4 +6,5 @@ pub mod Independent
 pub mod Sectors
 pub mod Carried
 pub mod Labelled
+pub mod Stepwise
 pub mod Promises
