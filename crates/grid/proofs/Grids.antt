@@ -11,6 +11,7 @@ use native.Mathlib.Nat.{
   dvd-of-mod-eq-zero,
   dvd-trans,
   eq-or-lt-of-le,
+  le-of-dvd,
   le-refl,
   mod-add-div,
   mod-eq-of-lt,
@@ -29,7 +30,8 @@ use native.Mathlib.Nat.{
 }
 use native.Mathlib.Numerals.{add-one}
 use native.Mathlib.Omega.{arith}
-use lib.ListN.{getD, take, drop}
+use lib.ListN.{length, getD, take, drop}
+use Rattle.pauli_word.specs.Limits.{maxSites}
 use Rattle.action.specs.Arithmetic.{product}
 use Rattle.action.specs.Permutation.{Generator, target}
 use Rattle.action.specs.Index.{orderOf}
@@ -37,7 +39,7 @@ use Rattle.action.specs.Lattice.{shifted, shift, shifts}
 use Rattle.action.proofs.Below.{map-below-cong}
 use Rattle.action.proofs.Index.{valid-positive, order-of-positive}
 use Rattle.action.proofs.Lattice.{target-shift}
-use Rattle.permutation.specs.Limits.{maxOrder}
+use Rattle.permutation.specs.Limits.{maxGenerators, maxOrder}
 use Rattle.permutation.proofs.Products.{product-next}
 use Rattle.elements.specs.HeldGroup.{generatorsIn, Tables}
 use Rattle.elements.proofs.Indices.{factor-small, order-next, order-end}
@@ -131,6 +133,10 @@ module _ {k n : ℕ} {targets orders : List ℕ} (t : Tables k n targets orders)
   place-positive g h =
       pos-of-dvd-of-pos (orders-divide g h) (rw axes-order (order-of-positive gs (valid-positive (t .valid))))
 
+  -- it is no more than that of all
+  pub place-within : (g : ℕ) → g ≤ k → product (take g orders) ≤ orderOf (generatorsIn k n targets orders)
+  place-within g h = rw (← axes-order) (le-of-dvd (place-positive k (le-refl k)) (orders-divide g h))
+
   -- the distance of two places of the next axis, as code counts
   pub place-next : (g : ℕ) → g < k → product (take (g + 1) orders) ≡ product (take g orders) * getD orders g 0
   place-next g h = rw (add-one g) (orders-next g h)
@@ -139,21 +145,28 @@ module _ {k n : ℕ} {targets orders : List ℕ} (t : Tables k n targets orders)
   pub place-times : (g : ℕ) → g < k → product (take g orders) * getD orders g 0 ≤ maxOrder
   place-times g h = rw (← orders-next g h) (factor-small t (product (take (suc g) orders)) (suc g) (orders-part (suc g) h))
 
+  -- rotations each of which shifts along an axis are axes
+  pub axes-by : {strides rests : List ℕ} → length strides ≡ maxGenerators → length rests ≡ maxGenerators → ((g : ℕ) → g < k → 0 < getD rests g 0)
+      → ((g : ℕ) → g < k → getD strides g 0 + getD rests g 0 ≤ maxSites + maxSites)
+      → ((g : ℕ) → g < k → Axis (product (take g orders)) (getD orders g 0) (getD strides g 0) (getD rests g 0)) → Axes k orders strides rests
+  axes-by {strides} {rests} strideCount restCount some small each = record {
+    strideCount = strideCount;
+    restCount = restCount;
+    some = some;
+    small = small;
+    whole = λ g h.
+        let b : ℕ = getD strides g 0 + getD rests g 0 in
+        let one : b ∣ product (take (suc g) orders) = rw (orders-next g h) (dvd-of-mod-eq-zero b (each g h .whole)) in
+        mod-eq-zero-of-dvd b (dvd-trans b one (orders-divide (suc g) h));
+    shifts = λ g h. each g h .shifts;
+  }
+
   module _ {strides rests : List ℕ} (s : Shapes k n targets strides rests) where
     -- generators each of which shifts along an axis are axes
     pub axes-all :
         ((g : ℕ) → g < k → Axis (product (take g orders)) (getD orders g 0) (getD strides g 0) (getD rests g 0)) → Axes k orders strides rests
-    axes-all each = record {
-      strideCount = s .strideCount;
-      restCount = s .restCount;
-      some = λ g h. omega (arith, s .each g h .blocks .inside);
-      small = λ g h. s .each g h .blocks .small;
-      whole = λ g h.
-          let b : ℕ = getD strides g 0 + getD rests g 0 in
-          let one : b ∣ product (take (suc g) orders) = rw (orders-next g h) (dvd-of-mod-eq-zero b (each g h .whole)) in
-          mod-eq-zero-of-dvd b (dvd-trans b one (orders-divide (suc g) h));
-      shifts = λ g h. each g h .shifts;
-    }
+    axes-all =
+        axes-by (s .strideCount) (s .restCount) (λ g h. omega (arith, s .each g h .blocks .inside)) (λ g h. s .each g h .blocks .small)
 
     module _ (a : Axes k orders strides rests) where
       -- an axis takes no site past the sites

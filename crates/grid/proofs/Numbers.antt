@@ -44,7 +44,7 @@ use Rattle.grid.specs.Candidates.{candidate}
 -- ---- further on, axis by axis
 
 -- without axes nothing is further on
-further-nil : (k q : ℕ) → further [] k q ≡ q
+pub further-nil : (k q : ℕ) → further [] k q ≡ q
 unfolding further orderOf add index
 further-nil k q = omega arith
 
@@ -63,12 +63,12 @@ further-cons g gs some rest k q =
 -- ---- along axes whose first places are a stride apart
 
 -- the site whose number in steps of the stride is k further on
-abbrev along : ℕ → List Generator → ℕ → ℕ → ℕ
+abbrev pub along : ℕ → List Generator → ℕ → ℕ → ℕ
 along stride gs k q = q % stride + stride * further gs k (q / stride)
 
 module _ (stride : ℕ) (apart : 0 < stride) (g : Generator) (some : 0 < g .order) (gs : List Generator) (rest : 0 < orderOf gs) (k q : ℕ) where
   -- the rotation by the first digit, and along the other axes from there
-  axis-along : along (stride * g .order) gs (k / g .order) (rotated (k % g .order * stride) (stride * g .order) q) ≡ along stride (g ∷ gs) k q
+  pub axis-along : along (stride * g .order) gs (k / g .order) (rotated (k % g .order * stride) (stride * g .order) q) ≡ along stride (g ∷ gs) k q
   axis-along =
       let o : ℕ = g .order in
       let b : ℕ = stride * o in

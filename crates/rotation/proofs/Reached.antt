@@ -1,19 +1,18 @@
 -- The word that an index reaches, generator by generator: as often as a digit says is one rotation, which a mask made for it turns the planes by.
 use Prim.Native.Nat.{ℕ, _+_, _-_, _*_, _/_, _%_, _≤_, _<_}
 use mathlib.Core.Path.{_≡_, refl, sym, ap, _∙_}
-use mathlib.Core.List.{List}
+use mathlib.Core.List.{List, _∷_}
 use native.Mathlib.Nat.{mod-lt, mul-le-mul-left, mul-le-mul-right}
 use native.Mathlib.Omega.{arith}
-use lib.ListN.{length, getD, drop}
+use lib.ListN.{length, getD, drop, drop-of-length-le}
 use Rattle.pauli_word.specs.Limits.{maxSites}
 use Rattle.pauli_word.specs.Word.{Word}
 use Rattle.action.specs.Permutation.{Generator}
 use Rattle.action.specs.Index.{digits}
 use Rattle.action.specs.Orbit.{move, moves, byDigits, reach}
-use Rattle.permutation.specs.Generators.{rowAt}
 use Rattle.elements.specs.HeldGroup.{generatorsIn, Tables}
-use Rattle.elements.proofs.TableRows.{rest-at, rest-end}
-use Rattle.rotation.specs.Rotation.{rotation, Blocks, Shapes}
+use Rattle.elements.proofs.TableRows.{generators-length, rest-at, order-positive-at}
+use Rattle.rotation.specs.Rotation.{rotation, turnAt, Blocks, Shapes, Rotations, Turns}
 use Rattle.rotation.proofs.Rotations.{moves-rotation-mod}
 
 -- ---- a digit's rotation
@@ -40,29 +39,46 @@ pub reached-start : (gs : List Generator) (index : ℕ) (w : Word) → reach gs 
 unfolding reach
 reached-start gs index w = refl
 
-module _ {k n : ℕ} {targets orders : List ℕ} (t : Tables k n targets orders) (g rest : ℕ) (w : Word) where
+module _ {k n : ℕ} {gs : List Generator} {orders strides rests : List ℕ} (t : Turns k n gs orders strides rests) (g rest : ℕ) (w : Word) where
   -- a generator moves the word as often as its digit says, and those after it are left
   rest-moved : g < k
-      → restOf (generatorsIn k n targets orders) g rest w
-      ≡ restOf (generatorsIn k n targets orders) (g + 1) (rest / getD orders g 0) (moves (rest % getD orders g 0) (rowAt n targets g) w)
+      → restOf gs g rest w
+      ≡ restOf gs (g + 1) (rest / getD orders g 0) (moves (rest % getD orders g 0) (turnAt n orders strides rests g .perm) w)
   unfolding byDigits digits
-  rest-moved h = rw (rest-at t g h)
+  rest-moved h = rw (t .each g h)
 
   -- after the last generator nothing is left
-  pub reached-end : k ≤ g → restOf (generatorsIn k n targets orders) g rest w ≡ w
+  pub reached-end : k ≤ g → restOf gs g rest w ≡ w
   unfolding byDigits digits
-  reached-end h = rw (rest-end t g h)
+  reached-end h = rw (drop-of-length-le gs {i = g} (rw (t .count) h))
 
   -- the digit's moves are one rotation
-  pub reached-next : {strides rests : List ℕ} (s : Shapes k n targets strides rests) → g < k → length w ≡ n → {v : Word}
+  pub reached-next : Blocks n (getD strides g 0) (getD strides g 0 + getD rests g 0) → g < k → length w ≡ n → {v : Word}
       → v ≡ move (rotation n (rest % getD orders g 0 * getD strides g 0 % (getD strides g 0 + getD rests g 0)) (getD strides g 0 + getD rests g 0)) w
-      → restOf (generatorsIn k n targets orders) g rest w ≡ restOf (generatorsIn k n targets orders) (g + 1) (rest / getD orders g 0) v
-  reached-next {strides} {rests} s h long {v} e =
+      → restOf gs g rest w ≡ restOf gs (g + 1) (rest / getD orders g 0) v
+  reached-next bl h long {v} e =
       let c : ℕ = rest % getD orders g 0 in
       let b : ℕ = getD strides g 0 + getD rests g 0 in
-      let bl : Blocks n (getD strides g 0) b = s .each g h .blocks in
-      let turned : moves c (rowAt n targets g) w ≡ v =
-      ap (λ (p : List ℕ). moves c p w) (s .each g h .turns)
-      ∙ moves-rotation-mod n b (omega (arith, bl .inside)) (bl .whole) c (getD strides g 0) w long
-      ∙ sym e in
-      rest-moved h ∙ ap (restOf (generatorsIn k n targets orders) (g + 1) (rest / getD orders g 0)) turned
+      let turned : moves c (rotation n (getD strides g 0) b) w ≡ v =
+      moves-rotation-mod n b (omega (arith, bl .inside)) (bl .whole) c (getD strides g 0) w long ∙ sym e in
+      rest-moved h ∙ ap (restOf gs (g + 1) (rest / getD orders g 0)) turned
+
+-- ---- the generators of tables
+
+module _ {k n : ℕ} {targets orders strides rests : List ℕ} (t : Tables k n targets orders) (s : Shapes k n targets strides rests) where
+  -- those that rotate are rotations
+  pub rotations-of : Rotations k n orders strides rests
+  rotations-of = record {
+    few = t .few;
+    orderCount = t .declaredOrders;
+    strideCount = s .strideCount;
+    restCount = s .restCount;
+    some = order-positive-at t;
+    blocks = λ g h. s .each g h .blocks;
+  }
+
+  pub turns-of : Turns k n (generatorsIn k n targets orders) orders strides rests
+  turns-of = record {
+    count = generators-length t;
+    each = λ g h. rest-at t g h ∙ ap (λ (p : List ℕ). record { perm = p; order = getD orders g 0 } ∷ drop (g + 1) (generatorsIn k n targets orders)) (s .each g h .turns);
+  }

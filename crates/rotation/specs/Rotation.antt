@@ -3,12 +3,13 @@ use Prim.Native.Nat.{ℕ, _+_, _*_, _%_, _<_, _≤_}
 use mathlib.Core.Path.{_≡_}
 use mathlib.Core.Logic.{_⊎_}
 use mathlib.Core.Bool.{false}
-use mathlib.Core.List.{List, map}
+use mathlib.Core.List.{List, _∷_, map}
 use lib.ListN.{length, getD, take, drop}
 use Rattle.pauli_word.specs.declared.Ordering.{Ordering}
 use Rattle.pauli_word.specs.declared.Ordering.the-variants.{Less, Same, Greater}
 use Rattle.pauli_word.specs.Word.{Word, xBit, letterOf}
 use Rattle.action.specs.Lists.{below}
+use Rattle.action.specs.Permutation.{Generator}
 use Rattle.pauli_word.specs.Limits.{maxSites}
 use Rattle.permutation.specs.Limits.{maxGenerators}
 use Rattle.permutation.specs.Generators.{rowAt}
@@ -38,6 +39,24 @@ pub record Shapes (k n : ℕ) (targets strides rests : List ℕ) : Type 0 where
   pub strideCount : length strides ≡ maxGenerators
   pub restCount : length rests ≡ maxGenerators
   pub each : (g : ℕ) → g < k → Rotates n (getD strides g 0) (getD strides g 0 + getD rests g 0) (rowAt n targets g)
+
+-- k rotations of n sites, each by its stride inside blocks of its stride and its rest, with orders that are not 0
+pub record Rotations (k n : ℕ) (orders strides rests : List ℕ) : Type 0 where
+  pub few : k ≤ maxGenerators
+  pub orderCount : length orders ≡ maxGenerators
+  pub strideCount : length strides ≡ maxGenerators
+  pub restCount : length rests ≡ maxGenerators
+  pub some : (g : ℕ) → g < k → 0 < getD orders g 0
+  pub blocks : (g : ℕ) → g < k → Blocks n (getD strides g 0) (getD strides g 0 + getD rests g 0)
+
+-- generator g of these
+abbrev pub turnAt : ℕ → List ℕ → List ℕ → List ℕ → ℕ → Generator
+turnAt n orders strides rests g = record { perm = rotation n (getD strides g 0) (getD strides g 0 + getD rests g 0); order = getD orders g 0 }
+
+-- generators of which these are all
+pub record Turns (k n : ℕ) (gs : List Generator) (orders strides rests : List ℕ) : Type 0 where
+  pub count : length gs ≡ k
+  pub each : (g : ℕ) → g < k → drop g gs ≡ turnAt n orders strides rests g ∷ drop (g + 1) gs
 
 -- part g of a list, m long
 abbrev pub part : ℕ → ℕ → List ℕ → List ℕ

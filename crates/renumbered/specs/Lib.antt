@@ -1,0 +1,2 @@
+-- Groups in other numberings of their sites.
+pub mod Renumbered

@@ -1,0 +1,8 @@
+-- The laws of the definitions: `Division` of parts read generator by generator, `Listing` of the places where an entry stands, `Spreading` of the index of the
+-- whole, `Placing` of letters at the places of a table, `Members` of the generators of a part, and `PartTables` of its tables.
+pub mod Division
+pub mod Listing
+pub mod Spreading
+pub mod Placing
+pub mod Members
+pub mod PartTables

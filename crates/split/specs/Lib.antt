@@ -1,0 +1,2 @@
+-- Groups in parts, as they are stored.
+pub mod Places
