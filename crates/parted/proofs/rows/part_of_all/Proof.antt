@@ -1,0 +1,56 @@
+-- `rows::part_of_all` meets its contract: there is room for the part's lists and tables.
+use Rattle.permutation.specs.Limits.{targetPlaces}
+use Rattle.pauli_word.specs.Limits.{maxSites}
+use lib.ListN.{length-replicate}
+use Prim.Native.Nat.{ℕ}
+use mathlib.Core.Path.{refl}
+use borrow.Author.Needs.{needs}
+use Rattle.parted.proofs.rows.part_of_all.Statement.{statement}
+use Rattle.parted.proofs.rows.part_of_all.Tie as tie
+
+slice-aggregate-part-in : tie.Need-slice-aggregate-part-in
+slice-aggregate-part-in c = search needs
+
+slice-aggregate-part-in-2 : tie.Need-slice-aggregate-part-in-2
+slice-aggregate-part-in-2 c = search needs
+
+slice-aggregate-part-in-3 : tie.Need-slice-aggregate-part-in-3
+slice-aggregate-part-in-3 c = search needs
+
+slice-aggregate-part-in-4 : tie.Need-slice-aggregate-part-in-4
+slice-aggregate-part-in-4 c = search needs
+
+slice-aggregate-part-in-5 : tie.Need-slice-aggregate-part-in-5
+slice-aggregate-part-in-5 c = search needs
+
+slice-aggregate-part-in-6 : tie.Need-slice-aggregate-part-in-6
+slice-aggregate-part-in-6 c = search needs
+
+part-in-requires : tie.Need-part-in-requires
+part-in-requires c κs =
+    let p = c .before .before .before .before .before .before .before .before .before .before .before .before .before .before .pre in
+    (p .0, (p .1 .0, ((refl, refl, length-replicate {A = ℕ} maxSites 0, length-replicate {A = ℕ} maxSites 0), ((length-replicate {A = ℕ} targetPlaces 0, refl), p .1 .1))))
+
+same-length : tie.Need-same-length
+same-length c = search needs
+
+same-length-2 : tie.Need-same-length-2
+same-length-2 c = search needs
+
+returns : tie.Need-returns
+returns c = search needs
+
+pub part-of-all-spec : {M : Type 1} → statement M
+part-of-all-spec =
+    tie.close
+    (tie.spec
+    slice-aggregate-part-in
+    slice-aggregate-part-in-2
+    slice-aggregate-part-in-3
+    slice-aggregate-part-in-4
+    slice-aggregate-part-in-5
+    slice-aggregate-part-in-6
+    part-in-requires
+    same-length
+    same-length-2
+    returns)

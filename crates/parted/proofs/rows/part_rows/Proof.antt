@@ -1,0 +1,184 @@
+-- `rows::part_rows` meets its contract. The loop's invariant: the part's work is done on the first i rows, and the others are as they were.
+use Rattle.parted.proofs.Walking.{Walked, walked-none, walked-next}
+use Rattle.parted.proofs.Standing.{spread-below, stepped-by}
+use Rattle.parted.specs.Steps.{siteOf, Stepped}
+use Rattle.row_lists.proofs.Rows.{part-row}
+use Rattle.packed.specs.Packed.{wordBits}
+use Rattle.row_lists.specs.Rows.{rowAt}
+use Rattle.elements.proofs.Orbits.{part-length}
+use Rattle.elements.proofs.TableRows.{generators-length}
+use Rattle.elements.specs.HeldGroup.{generatorsIn}
+use Rattle.action.proofs.Index.{valid-positive}
+use Rattle.action.specs.Permutation.{Generator}
+use Rattle.pauli_word.specs.Bytes.{AcceptedWord}
+use Rattle.pauli_word.specs.Limits.{wordLength}
+use denote.Ref.{now}
+use lib.ListN.{length, getD, take, drop, length-set}
+use lib.Dec.{eqb}
+use mathlib.Core.List.{List}
+use mathlib.Core.Path.{_≡_, refl, sym, _∙_, subst}
+use Prim.Native.Nat.{ℕ, _+_, _-_, _*_, _^_, _≤_, _<_}
+use native.Mathlib.Omega.{arith}
+use Rattle.parted.proofs.rows.part_rows.Statement.{statement}
+use Rattle.parted.proofs.rows.part_rows.Tie as tie
+
+abbrev Inv-loop : tie.InvT-loop
+Inv-loop targets orders generators sites labels part way own-targets own-orders k m strides rests masks site place order table left₀ representatives₀ indices₀ i₀ left representatives indices i =
+    (i ≤ length indices)
+    × (length left ≡ length left₀)
+    × Walked (Stepped sites m (siteOf table) (generatorsIn k m own-targets own-orders) (generatorsIn generators sites targets orders) labels part) representatives₀ indices₀ representatives indices i
+
+abbrev μ-loop : tie.MeasureT-loop
+μ-loop targets orders generators sites labels part way own-targets own-orders k m strides rests masks site place order table left₀ representatives₀ indices₀ i₀ left representatives indices i = length indices - i
+
+-- the generators of the group, and of the part
+abbrev gens : (c : tie.Start Inv-loop μ-loop) → List Generator
+gens c = let a = c .args in generatorsIn (a .generators) (a .sites) (now (a .targets)) (now (a .orders))
+
+abbrev ownGens : (c : tie.Start Inv-loop μ-loop) → List Generator
+ownGens c = let a = c .args in generatorsIn (a .k) (a .m) (now (a .own-targets)) (now (a .own-orders))
+
+-- what the part's work on a row comes to
+abbrev Work : (c : tie.Start Inv-loop μ-loop) → List ℕ → ℕ → List ℕ → ℕ → Type 0
+Work c = let a = c .args in Stepped (a .sites) (a .m) (siteOf (now (a .table))) (ownGens c) (gens c) (now (a .labels)) (a .part)
+
+-- in the loop: row i is one of the rows
+module _ (c : tie.In-loop Inv-loop μ-loop) where
+  abbrev start : tie.Start Inv-loop μ-loop
+  start = c .before .before .before .before .before .before .before .before .before .before .before .before .before .before .before .before
+
+  abbrev walked : Walked (Work start) (now (start .args .representatives)) (now (start .args .indices)) (c .before .loop .representatives) (c .before .loop .indices) (c .before .loop .i)
+  walked = c .before .loop .inv .2
+
+  row-below : c .before .loop .i < length (now (start .args .indices))
+  row-below = omega (arith, c .loop-test .taken, walked .long)
+
+  room : wordLength * (c .before .loop .i) + wordLength ≤ length (c .before .loop .representatives)
+  room = omega (arith, row-below, walked .wide, start .pre .1 .1 .1 .1 .1 .0)
+
+  -- the bytes of the rows are so few that they can be counted
+  small : wordLength * (c .before .loop .i) + wordLength < 2 ^ wordBits
+  small = omega (arith, room, walked .wide, start .good .1 .1 .1 .1 .1 .1 .1 .1 .1 .1 .1 .1 .1 .1 .1 .1 .1 .1 .1 .0)
+
+  -- it is as it was
+  same-row : take (wordLength * (c .before .loop .i) + wordLength - wordLength * (c .before .loop .i)) (drop (wordLength * (c .before .loop .i)) (c .before .loop .representatives)) ≡ rowAt (now (start .args .representatives)) (c .before .loop .i)
+  same-row = part-row (c .before .loop .representatives) (c .before .loop .i) ∙ walked .row (c .before .loop .i) (omega arith)
+
+  same-index : getD (c .before .loop .indices) (c .before .loop .i) 0 ≡ getD (now (start .args .indices)) (c .before .loop .i) 0
+  same-index = walked .index (c .before .loop .i) (omega arith)
+
+loop-holds : tie.Need-loop-holds Inv-loop μ-loop
+loop-holds c = let s = c .before .before .before .before .before .before .before .before .before .before .before .before .before .before in (omega arith, refl, walked-none (Work s) (now (s .args .representatives)) (now (s .args .indices)))
+
+mul-at : tie.Need-mul-at Inv-loop μ-loop
+mul-at c = omega (arith, small c)
+
+add-end : tie.Need-add-end Inv-loop μ-loop
+add-end c = omega (arith, small c)
+
+sub-row : tie.Need-sub-row Inv-loop μ-loop
+sub-row c = omega arith
+
+part-row-start : tie.Need-part-row-start Inv-loop μ-loop
+part-row-start c = omega arith
+
+part-row-end : tie.Need-part-row-end Inv-loop μ-loop
+part-row-end c = omega (arith, room c)
+
+least-part-requires : tie.Need-least-part-requires Inv-loop μ-loop
+least-part-requires c κs =
+    let t = c .before .before in
+    let p = start t .pre in
+    let q = p .1 .1 .1 .1 .0 in (
+      p .1 .0,
+      (
+        p .1 .1 .0,
+        (
+          p .1 .1 .1 .0,
+          ((q .0, q .1), (subst (AcceptedWord (start t .args .sites)) (sym (same-row t)) (p .1 .1 .1 .1 .1 .1 (t .before .loop .i) (row-below t) .0), t .before .loop .inv .1 ∙ q .2)),
+        ),
+      ),
+    )
+
+spread-requires : tie.Need-spread-requires Inv-loop μ-loop
+spread-requires c κs = c .before .before .before .before .before .before .before .before .before .before .before .before .before .before .before .before .before .before .before .before .before .before .before .pre .0
+
+mul-indices : tie.Need-mul-indices Inv-loop μ-loop
+mul-indices c = omega (arith, small (c .before .before .before .before .before .before .before .before))
+
+slice-read-indices : tie.Need-slice-read-indices Inv-loop μ-loop
+slice-read-indices c = omega (arith, c .before .before .before .before .before .before .before .before .before .loop-test .taken)
+
+add-indices : tie.Need-add-indices Inv-loop μ-loop
+add-indices c =
+    let t = c .before .before .before .before .before .before .before .before .before in
+    let s = start t in
+    let p = s .pre in
+    let back = c .before .before .before .before .before .before .least-part .result in
+    let own = spread-below (λ l. eqb l (s .args .part)) (now (s .args .labels)) (gens s) (p .0 .1 ∙ sym (generators-length (p .0 .0))) (valid-positive (p .0 .0 .valid)) back in
+    omega (arith, same-index t, p .1 .1 .1 .1 .1 .1 (t .before .loop .i) (row-below t) .1, p .0 .0 .small, c .before .spread .ensures, own)
+
+mul-indices-2 : tie.Need-mul-indices-2 Inv-loop μ-loop
+mul-indices-2 c = omega (arith, small (c .before .before .before .before .before .before .before .before .before))
+
+slice-write-indices : tie.Need-slice-write-indices Inv-loop μ-loop
+slice-write-indices c = omega (arith, c .before .before .before .before .before .before .before .before .before .loop-test .taken)
+
+add-i : tie.Need-add-i Inv-loop μ-loop
+add-i c = omega (arith, small (c .before .before .before .before .before .before .before .before .before))
+
+loop-less : tie.Need-loop-less Inv-loop μ-loop
+loop-less c = simp length-set (omega (arith, c .before .before .before .before .before .before .before .before .before .loop-test .taken))
+
+loop-again : tie.Need-loop-again Inv-loop μ-loop
+loop-again c =
+    let t = c .before .before .before .before .before .before .before .before .before in
+    let s = start t in
+    let a = s .args in
+    let l = t .before .loop in
+    let r = c .before .before .before .before .before .before .least-part in (
+      simp length-set (omega (arith, t .loop-test .taken)),
+      r .kept .1 .1 .1 .1 .1 .1 .1 .1 .1 .1 .1 .1 .1 .0 ∙ l .inv .1,
+      walked-next (Work s) (walked t) (t .loop-test .taken) (room t) (r .last .1 .1 .1 .1 .1 .1 .1 .1 .1 .1 .1 .1 .1 .1 .0)
+          (r .kept .1 .1 .1 .1 .1 .1 .1 .1 .1 .1 .1 .1 .1 .1 .0 ∙ part-length wordLength (l .i) (l .representatives) (room t)) _
+          (stepped-by (a .sites) (a .m) (siteOf (now (a .table))) (ownGens s) (gens s) (now (a .labels)) (a .part) (same-row t) (same-index t) (r .ensures .0) (c .before .spread .ensures) (r .ensures .1)),
+    )
+
+same-length : tie.Need-same-length Inv-loop μ-loop
+same-length c = c .before .loop .inv .1
+
+same-length-2 : tie.Need-same-length-2 Inv-loop μ-loop
+same-length-2 c = c .before .loop .inv .2 .wide
+
+same-length-3 : tie.Need-same-length-3 Inv-loop μ-loop
+same-length-3 c = c .before .loop .inv .2 .long
+
+returns : tie.Need-returns Inv-loop μ-loop
+returns c i h = c .before .loop .inv .2 .done i (omega (arith, c .loop-test .left, c .before .loop .inv .2 .long, h))
+
+pub part-rows-spec : {M : Type 1} → statement M
+part-rows-spec =
+    tie.close
+    (tie.spec
+    Inv-loop
+    μ-loop
+    loop-holds
+    mul-at
+    add-end
+    sub-row
+    part-row-start
+    part-row-end
+    least-part-requires
+    spread-requires
+    mul-indices
+    slice-read-indices
+    add-indices
+    mul-indices-2
+    slice-write-indices
+    add-i
+    loop-less
+    loop-again
+    same-length
+    same-length-2
+    same-length-3
+    returns)
