@@ -6,7 +6,7 @@ use native.Mathlib.Omega.{arith}
 use lib.Dec.{ltb, eqb}
 use borrow.Author.Tests.{ltb-true, lt-ltb, eqb-true}
 use Rattle.packed.specs.Packed.{LessAt}
-use Rattle.cyclic.proofs.BitOrder.{by-equal, by-order, less-longer, same-less, less-same}
+use Rattle.cyclic.proofs.BitOrder.{by-equal, by-order, less-longer}
 use Rattle.grid.specs.Candidates.{Left}
 
 -- where a bit is set without another, it is set and the other is not
@@ -111,14 +111,4 @@ module _ {o : ℕ} {F : ℕ → ℕ → Bool} {t : ℕ} {S : ℕ → Bool} (l : 
     some = (l .some .0, e (l .some .0) ∙ l .some .1);
     ties = λ j k a b. l .ties j k (sym (e j) ∙ a) (sym (e k) ∙ b);
     rest = λ j k a g b. l .rest j k (sym (e j) ∙ a) g (sym (e k) ∙ b);
-  }
-
-  -- bits that agree as far as they are read
-  pub left-cong : {G : ℕ → ℕ → Bool} → ((k p : ℕ) → k < o → p < t → F k p ≡ G k p) → Left o G t S
-  left-cong {G} e = record {
-    inside = l .inside;
-    some = l .some;
-    ties = λ j k a b p g. sym (e j p (l .inside j a) g) ∙ l .ties j k a b p g ∙ e k p (l .inside k b) g;
-    rest = λ j k a g b. same-less t (G j) (F j) (G k) (λ p q. sym (e j p (l .inside j a) q))
-        (less-same t (F j) (F k) (G k) (l .rest j k a g b) (λ p q. e k p g q));
   }

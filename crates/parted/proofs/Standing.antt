@@ -22,24 +22,14 @@ use Rattle.action.proofs.Lists.{of-member-at}
 use Rattle.action.proofs.Below.{map-below-at}
 use Rattle.action.proofs.Index.{Positive, valid-positive}
 use Rattle.action.proofs.Canonical.{forward-reaches, least-length, back-below}
-use Rattle.parts.specs.Parts.{joined, mixed}
+use Rattle.parts.specs.Parts.{mixed}
 use Rattle.parts.specs.Labels.{chosen, spread, Divided}
 use Rattle.parts.specs.Numbered.{Numbering, readBy, Carried}
-use Rattle.parts.proofs.Joined.{joined-below}
 use Rattle.parts.proofs.Independent.{mixed-length, mixed-inside, mixed-outside, reach-leaves}
-use Rattle.parts.proofs.Labelled.{chosen-interleaved, all-apart, chosen-all, chosen-none, spread-all, spread-zero, spread-index}
+use Rattle.parts.proofs.Labelled.{chosen-all, chosen-none, spread-all, spread-zero, spread-below}
 use Rattle.parts.proofs.Stepwise.{before, own, owns, chosen-valid, done-leaves, next-index, part-back, next-word, none-least, none-back}
 use Rattle.split.specs.Places.{Listed}
 use Rattle.parted.specs.Steps.{Placed, PartLeast, Stepped, Stands}
-
--- ---- indices of parts are indices of the whole
-
-module _ (t : ℕ → Bool) (labels : List ℕ) (gs : List Generator) (e : length labels ≡ length gs) (p : Positive gs) where
-  pub spread-below : (i : ℕ) → spread t labels gs i < orderOf gs
-  spread-below i =
-      let all = chosen-all (λ l. true) labels gs e (λ l m. refl) in
-      let s = chosen-interleaved (all-apart t) labels gs in
-      rw (spread-index t labels gs e p i) (subst (λ (hs : List Generator). joined s i 0 < orderOf hs) all (joined-below s (subst Positive (sym all) p) i 0))
 
 -- ---- the places that a table lists
 

@@ -14,6 +14,14 @@ use lib.Seq.{getD-append-add}
 use Rattle.pauli_word.specs.Word.{I, Word, xBit, zBit, bits, lessBits, less}
 use Rattle.packed.specs.Packed.{LessAt}
 
+-- a site passes a test or does not
+pub by-test : (p : ℕ → Bool) {A : Type 0} (q : ℕ) → (p q ≡ true → A) → (p q ≡ false → A) → A
+by-test p {A} q yes-case no-case = go (p q) refl
+  where
+    go : (b : Bool) → p q ≡ b → A
+    go true e = yes-case e
+    go false e = no-case e
+
 -- ---- lists of bits
 
 abbrev at : List Bool → ℕ → Bool

@@ -33,7 +33,7 @@ use Rattle.action.proofs.Stabilizer.{fixes-intro, fixes-elim}
 use Rattle.rotation.proofs.XPlane.{least-is, forward-is}
 use Rattle.parts.specs.Numbered.{Numbering, readBy, Carried}
 use Rattle.parts.proofs.Joined.{valid-rest}
-use Rattle.parts.proofs.Bitwise.{wordBit, bitSite, wordBit-same, bitSite-below, less-first, first-less}
+use Rattle.parts.proofs.Bitwise.{by-test, wordBit, bitSite, wordBit-same, bitSite-below, less-first, first-less}
 use Rattle.parts.proofs.Independent.{Leaves, after-stays, reach-leaves}
 
 -- ---- words read by numbers
@@ -122,13 +122,6 @@ module _ (m : ℕ) (site : ℕ → ℕ) where
 
 module _ {n m : ℕ} {site : ℕ → ℕ} (σ : Numbering n m site) (p : ℕ → Bool)
     (number : (q : ℕ) → q < n → p q ≡ true → (a : ℕ) × (a < m) × (site a ≡ q)) where
-  by-test : {A : Type 0} (q : ℕ) → (p q ≡ true → A) → (p q ≡ false → A) → A
-  by-test {A} q yes-case no-case = go (p q) refl
-    where
-      go : (b : Bool) → p q ≡ b → A
-      go true e = yes-case e
-      go false e = no-case e
-
   -- words that are the same elsewhere
   module _ (u v : Word) (ul : length u ≡ n) (vl : length v ≡ n) (same : (q : ℕ) → q < n → p q ≡ false → getD u q I ≡ getD v q I) where
     -- are the same if they are read the same
@@ -136,7 +129,7 @@ module _ {n m : ℕ} {site : ℕ → ℕ} (σ : Numbering n m site) (p : ℕ →
     read-same e =
         ext-getD I u v (ul ∙ sym vl)
         (λ q l. let h : q < n = rw ul at l in
-        by-test q
+        by-test p q
         (λ t. let (a, k, r) = number q h t in
         rw (← r) (sym (readBy-at m site u a k) ∙ ap (λ (w : Word). getD w a I) e ∙ readBy-at m site v a k))
         (same q h))
@@ -203,7 +196,7 @@ module _ {n m : ℕ} {site : ℕ → ℕ} (σ : Numbering n m site) (p : ℕ →
               first-less n u v ul vl (
                 lift t,
                 lift-below t l,
-                (λ r k. by-test (bitSite n r)
+                (λ r k. by-test p (bitSite n r)
                     (λ e. let (x, a, b) = before t r l k e in rw (← b) (sym (read-bit u x (omega arith)) ∙ s x a ∙ read-bit v x (omega arith)))
                     (λ e. wordBit-same n u v r (same (bitSite n r) (bitSite-below n r (omega (arith, lift-below t l))) e))),
                 sym (read-bit u t l) ∙ f,
@@ -297,10 +290,7 @@ module _ {n m : ℕ} {site : ℕ → ℕ} (σ : Numbering n m site) (p : ℕ →
     unfolding indexBack
     back-carried = inverse-carried m site gs hs c (forward hs (readBy m site w)) ∙ ap (inverse gs) forward-carried
 
-    -- the least word has the letters of the one that is read at the sites that have numbers, and those of the word elsewhere
-    pub least-elsewhere : (q : ℕ) → q < n → p q ≡ false → getD (least gs w) q I ≡ getD w q I
-    least-elsewhere q h f = ap (λ (x : Word). getD x q I) (sym (forward-reaches v w)) ∙ elsewhere (forward gs w) q h f
-
+    -- at the sites that have numbers it has the letters of the one that is read
     pub least-at : (a : ℕ) → a < m → getD (least gs w) (site a) I ≡ getD (least hs (readBy m site w)) a I
     least-at a h = sym (readBy-at m site (least gs w) a h) ∙ ap (λ (x : Word). getD x a I) (sym least-carried)
 

@@ -27,7 +27,7 @@ use Rattle.action.proofs.Stabilizer.{fixes-intro, fixes-elim}
 use Rattle.rotation.proofs.XPlane.{least-is, forward-is}
 use Rattle.parts.specs.Parts.{Interleaved, first, second, joined, mixed}
 use Rattle.parts.proofs.Joined.{whole, exchanged, joined-exchanged, first-valid, second-valid, joined-below, inFirst, inSecond, inFirst-below, inSecond-below, joined-parts, joined-le, joined-zero, reach-joined}
-use Rattle.parts.proofs.Bitwise.{wordBit, bitSite, wordBit-same, bitSite-below, less-first, first-less}
+use Rattle.parts.proofs.Bitwise.{by-test, wordBit, bitSite, wordBit-same, bitSite-below, less-first, first-less}
 
 and-both : (a b : Bool) → (a && b) ≡ true → (a ≡ true) × (b ≡ true)
 and-both true b h = (refl, h)
@@ -72,21 +72,13 @@ module _ (n : ℕ) (p : ℕ → Bool) where
   pub mixed-outside : (u v : Word) (q : ℕ) → q < n → p q ≡ false → getD (mixed n p u v) q I ≡ getD u q I
   mixed-outside u v q h f = mixed-at u v q h ∙ rw f
 
-  -- a site passes or does not
-  by-test : {A : Type 0} (q : ℕ) → (p q ≡ true → A) → (p q ≡ false → A) → A
-  by-test {A} q yes-case no-case = go (p q) refl
-    where
-      go : (b : Bool) → p q ≡ b → A
-      go true e = yes-case e
-      go false e = no-case e
-
   -- a word with these letters is the one put together
   pub mixed-of : (u v w : Word) → length w ≡ n → ((q : ℕ) → q < n → p q ≡ true → getD w q I ≡ getD v q I)
       → ((q : ℕ) → q < n → p q ≡ false → getD w q I ≡ getD u q I) → w ≡ mixed n p u v
   mixed-of u v w e a b =
       ext-getD I w (mixed n p u v) (e ∙ sym (mixed-length u v))
       (λ q l. let h : q < n = rw e at l in
-      by-test q (λ t. a q h t ∙ sym (mixed-inside u v q h t)) (λ f. b q h f ∙ sym (mixed-outside u v q h f)))
+      by-test p q (λ t. a q h t ∙ sym (mixed-inside u v q h t)) (λ f. b q h f ∙ sym (mixed-outside u v q h f)))
 
   -- words of two orbits: u and u′ are the same at the sites that pass, v and v′ at the others
   module _ (u u′ v v′ : Word) (ul : length u ≡ n) (ul′ : length u′ ≡ n) (vl : length v ≡ n) (vl′ : length v′ ≡ n)
@@ -96,13 +88,13 @@ module _ (n : ℕ) (p : ℕ → Bool) where
     mixed-first e =
         ext-getD I u u′ (ul ∙ sym ul′)
         (λ q l. let h : q < n = rw ul at l in
-        by-test q (us q h) (λ f. sym (mixed-outside u v q h f) ∙ ap (λ (x : Word). getD x q I) e ∙ mixed-outside u′ v′ q h f))
+        by-test p q (us q h) (λ f. sym (mixed-outside u v q h f) ∙ ap (λ (x : Word). getD x q I) e ∙ mixed-outside u′ v′ q h f))
 
     pub mixed-second : mixed n p u v ≡ mixed n p u′ v′ → v ≡ v′
     mixed-second e =
         ext-getD I v v′ (vl ∙ sym vl′)
         (λ q l. let h : q < n = rw vl at l in
-        by-test q (λ t. sym (mixed-inside u v q h t) ∙ ap (λ (x : Word). getD x q I) e ∙ mixed-inside u′ v′ q h t) (vs q h))
+        by-test p q (λ t. sym (mixed-inside u v q h t) ∙ ap (λ (x : Word). getD x q I) e ∙ mixed-inside u′ v′ q h t) (vs q h))
 
     -- the first bit where they differ lies at a site of one of them
     pub mixed-less : less (mixed n p u v) (mixed n p u′ v′) ≡ true → (less u u′ ≡ true) ⊎ (less v v′ ≡ true)
@@ -116,11 +108,11 @@ module _ (n : ℕ) (p : ℕ → Bool) where
         bit-out x y t l e = wordBit-same n (mixed n p x y) x t (mixed-outside x y (bitSite n t) (bitSite-below n t l) e)
 
         go : LessAt (n + n) (wordBit n (mixed n p u v)) (wordBit n (mixed n p u′ v′)) → (less u u′ ≡ true) ⊎ (less v v′ ≡ true)
-        go (t, l, s, f, g) = by-test (bitSite n t)
+        go (t, l, s, f, g) = by-test p (bitSite n t)
             (λ e. inr (first-less n v v′ vl vl′ (
               t,
               l,
-              (λ r k. by-test (bitSite n r)
+              (λ r k. by-test p (bitSite n r)
                   (λ d. sym (bit-in u v r (omega arith) d) ∙ s r k ∙ bit-in u′ v′ r (omega arith) d)
                   (λ d. wordBit-same n v v′ r (vs (bitSite n r) (bitSite-below n r (omega arith)) d))),
               sym (bit-in u v t l e) ∙ f,
@@ -129,7 +121,7 @@ module _ (n : ℕ) (p : ℕ → Bool) where
             (λ e. inl (first-less n u u′ ul ul′ (
               t,
               l,
-              (λ r k. by-test (bitSite n r)
+              (λ r k. by-test p (bitSite n r)
                   (λ d. wordBit-same n u u′ r (us (bitSite n r) (bitSite-below n r (omega arith)) d))
                   (λ d. sym (bit-out u v r (omega arith) d) ∙ s r k ∙ bit-out u′ v′ r (omega arith) d)),
               sym (bit-out u v t l e) ∙ f,

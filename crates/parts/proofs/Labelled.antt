@@ -193,6 +193,12 @@ module _ (t : ℕ → Bool) (ls : List ℕ) (gs : List Generator) (e : length ls
       ∙ sym (spread-joined (all-apart t) ls gs p i 0)
       ∙ spread-all (λ l. true) ls gs e p (λ l m. refl) (joined s i 0) (subst (λ (hs : List Generator). joined s i 0 < orderOf hs) all-chosen (joined-below s all-positive i 0))
 
+  -- it is an index of the whole
+  pub spread-below : (i : ℕ) → spread t ls gs i < orderOf gs
+  spread-below i =
+      let s = chosen-interleaved (all-apart t) ls gs in
+      rw (spread-index i) (subst (λ (hs : List Generator). joined s i 0 < orderOf hs) all-chosen (joined-below s all-positive i 0))
+
   -- the larger index has the larger one
   pub spread-le : (i j : ℕ) → j < orderOf (chosen t ls gs) → i ≤ j → spread t ls gs i ≤ spread t ls gs j
   spread-le i j h k =

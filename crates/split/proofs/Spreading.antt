@@ -16,17 +16,8 @@ use Rattle.action.proofs.Index.{Positive, valid-positive}
 use Rattle.permutation.specs.Limits.{maxOrder}
 use Rattle.elements.specs.HeldGroup.{generatorsIn, Tables}
 use Rattle.elements.proofs.TableRows.{generators-length, rest-at}
-use Rattle.parts.specs.Labels.{chosen, spread}
-use Rattle.parts.specs.Parts.{joined}
-use Rattle.parts.proofs.Joined.{joined-below}
-use Rattle.parts.proofs.Labelled.{chosen-all, chosen-interleaved, all-apart, spread-index}
-
--- it is below the group order
-spread-below : (t : ℕ → Bool) (ls : List ℕ) (gs : List Generator) → length ls ≡ length gs → Positive gs → (i : ℕ) → spread t ls gs i < orderOf gs
-spread-below t ls gs e p i =
-    let s = chosen-interleaved (all-apart t) ls gs in
-    let all : chosen (λ l. true) ls gs ≡ gs = chosen-all (λ l. true) ls gs e (λ l m. refl) in
-    rw (spread-index t ls gs e p i) (subst (λ (hs : List Generator). joined s i 0 < orderOf hs) all (joined-below s (rw all p) i 0))
+use Rattle.parts.specs.Labels.{spread}
+use Rattle.parts.proofs.Labelled.{spread-below}
 
 module _ {k n : ℕ} {targets orders : List ℕ} (t : Tables k n targets orders) (labels : List ℕ) (long : length labels ≡ k) (part : ℕ) where
   -- the index with the digits of i at what is left from generator g on

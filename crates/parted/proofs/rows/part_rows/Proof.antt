@@ -1,6 +1,7 @@
 -- `rows::part_rows` meets its contract. The loop's invariant: the part's work is done on the first i rows, and the others are as they were.
 use Rattle.parted.proofs.Walking.{Walked, walked-none, walked-next}
-use Rattle.parted.proofs.Standing.{spread-below, stepped-by}
+use Rattle.parts.proofs.Labelled.{spread-below}
+use Rattle.parted.proofs.Standing.{stepped-by}
 use Rattle.parted.specs.Steps.{siteOf, Stepped}
 use Rattle.row_lists.proofs.Rows.{part-row}
 use Rattle.packed.specs.Packed.{wordBits}
