@@ -4,7 +4,7 @@
 
 use crate::bulk::{self, Call, WORDS};
 use crate::cases::{Group, Lattice};
-use crate::groups;
+use crate::groups::{self, Generators, shifts_by, shifts_of, sublattices, turn};
 use crate::interface::*;
 use crate::random::Random;
 use crate::rust::{OldWord, old_bytes, value_of};
@@ -40,7 +40,7 @@ impl Measured {
 
 /// What the check of a group takes of a call with many words: the check alone, a call with one word, and one of many words by the word.
 struct Check {
-    name: &'static str,
+    name: String,
     sites: usize,
     order: usize,
     check: Times,
@@ -72,66 +72,81 @@ impl Check {
 
 /// A line for each measurement.
 pub fn lines() {
-    measure_calls(Measured::line);
-    measure_many(Measured::line);
-    measure_check(Check::line);
+    measure_calls("", Measured::line);
+    measure_many("", Measured::line);
+    measure_check("", Check::line);
 }
 
-/// The tables of docs/BENCH.md: single calls and sums; many words in one call; and what the check of the group takes of one.
-pub fn tables() {
+/// The tables of docs/BENCH.md, of groups whose names have a text: single calls and sums; many words in one call; and what the check of the group takes of
+/// one.
+pub fn tables(only: &str) {
     let head = |first: &str| {
         println!("| {first} | sites | order | call | ours, least | the Rust, least | ratio |");
         println!("|---|---|---|---|---|---|---|");
     };
     head("group");
-    measure_calls(Measured::row);
+    measure_calls(only, Measured::row);
     println!();
     head("group and words");
-    measure_many(Measured::row);
+    measure_many(only, Measured::row);
     println!();
     println!(
         "| group | sites | order | the check of 14 (`order`) | `canonicalize_words`, 1 word | {WORDS} words, by the word | share of the check |"
     );
     println!("|---|---|---|---|---|---|---|");
-    measure_check(Check::row);
+    measure_check(only, Check::row);
 }
 
-fn measure_calls(report: fn(&Measured)) {
+fn measure_calls(only: &str, report: fn(&Measured)) {
     let mut random = Random::of(0, "bench", 0);
     for (name, group) in benched_groups(&mut random) {
         let words: Vec<OldWord> = (0..WORDS).map(|_| bulk::any_word(&mut random, group.n_qubits()).into()).collect();
-        report(&measured(&name, &group, "canonicalize_with_index", with_index(&group, &words)));
-        report(&measured(&name, &group, "canonicalize_in_sector", in_sector(&group, &words)));
+        if name.contains(only) {
+            report(&measured(&name, &group, "canonicalize_with_index", with_index(&group, &words)));
+            report(&measured(&name, &group, "canonicalize_in_sector", in_sector(&group, &words)));
+        }
     }
     let group = groups::accepted(Lattice::Chain(64));
     for (name, rows) in benched_rows(&mut random, &group) {
         let name = format!("chain 64, {MAX_ROWS} rows {name}");
-        report(&measured(&name, &group, "canonicalize_pauli_sum", sum(&group, &rows)));
-    }
-}
-
-/// Many words in one call, by the word.
-fn measure_many(report: fn(&Measured)) {
-    let mut random = Random::of(0, "bench many", 0);
-    for (name, lattice) in LATTICES.into_iter().chain([WIDE]) {
-        let group = groups::accepted(lattice);
-        for (kind, words) in bulk::kinds(&mut random, lattice) {
-            for call in Call::ALL {
-                let times = in_turn([bulk::ours(call, &group, &words), bulk::rust(call, &group, &words)]);
-                report(&measured(&format!("{name}, {kind}"), &group, call.name(), times));
-            }
+        if name.contains(only) {
+            report(&measured(&name, &group, "canonicalize_pauli_sum", sum(&group, &rows)));
         }
     }
 }
 
-fn measure_check(report: fn(&Check)) {
+/// Many words in one call, by the word.
+fn measure_many(only: &str, report: fn(&Measured)) {
+    let mut random = Random::of(0, "bench many", 0);
+    let measure = |name: String, group: &TranslationGroup, call: Call, words: &[String]| {
+        if name.contains(only) {
+            let words = bulk::few(call, group, words);
+            let times = in_turn([bulk::ours(call, group, words), bulk::rust(call, group, words)]);
+            report(&measured(&name, group, call.name(), times));
+        }
+    };
+    for (name, group) in lattices().into_iter().chain([wide()]).chain(own_groups(&mut random)) {
+        for (kind, words) in bulk::kinds(&mut random, &group) {
+            for call in Call::ALL {
+                measure(format!("{name}, {kind}"), &group, call, &words);
+            }
+        }
+    }
+    for (name, group) in walked_groups() {
+        let [(kind, words), ..] = bulk::kinds(&mut random, &group);
+        measure(format!("{name}, {kind}"), &group, Call::Words, &words);
+    }
+}
+
+fn measure_check(only: &str, report: fn(&Check)) {
     let mut random = Random::of(0, "bench check", 0);
-    for (name, lattice) in LATTICES.into_iter().chain([WIDE]) {
-        let group = groups::accepted(lattice);
+    for (name, group) in lattices().into_iter().chain([wide()]) {
         let words: Vec<String> = (0..WORDS).map(|_| bulk::any_word(&mut random, group.n_qubits())).collect();
-        let sides = [bulk::check(&group), bulk::ours(Call::Words, &group, &words[..1]), bulk::ours(Call::Words, &group, &words)];
-        let [check, one, many] = in_turn(sides);
-        report(&Check { name, sites: group.n_qubits(), order: group.order(), check, one, many });
+        if name.contains(only) {
+            let sides = [bulk::check(&group), bulk::ours(Call::Words, &group, &words[..1]), bulk::ours(Call::Words, &group, &words)];
+            let [check, one, many] = in_turn(sides);
+            report(&Check { name, sites: group.n_qubits(), order: group.order(), check, one, many });
+        }
     }
 }
 
@@ -139,24 +154,49 @@ fn measured(name: &str, group: &TranslationGroup, call: &'static str, [ours, rus
     Measured { name: name.to_string(), sites: group.n_qubits(), order: group.order(), call, ours, rust }
 }
 
-const LATTICES: [(&str, Lattice); 6] = [
-    ("chain 64", Lattice::Chain(64)),
-    ("chain 256", Lattice::Chain(256)),
-    ("ladder 64 x 4", Lattice::Ladder(64, 4)),
-    ("torus 8 x 8", Lattice::Torus2(8, 8)),
-    ("torus 16 x 16", Lattice::Torus2(16, 16)),
-    ("torus 6 x 6 x 7", Lattice::Torus3(6, 6, 7)),
-];
+/// A group and its name.
+type Named = (String, TranslationGroup);
+
+fn named(name: &str, generators: Generators) -> Named {
+    (name.to_string(), generators.chosen().group)
+}
+
+fn lattices() -> Vec<Named> {
+    let lattices = [
+        ("chain 64", Lattice::Chain(64)),
+        ("chain 256", Lattice::Chain(256)),
+        ("ladder 64 x 4", Lattice::Ladder(64, 4)),
+        ("torus 8 x 8", Lattice::Torus2(8, 8)),
+        ("torus 16 x 16", Lattice::Torus2(16, 16)),
+        ("torus 6 x 6 x 7", Lattice::Torus3(6, 6, 7)),
+    ];
+    lattices.map(|(name, lattice)| (name.to_string(), groups::accepted(lattice))).into()
+}
 
 /// A lattice of more sites than the old form holds.
-const WIDE: (&str, Lattice) = ("torus 40 x 40", Lattice::Torus2(40, 40));
+fn wide() -> Named {
+    ("torus 40 x 40".to_string(), groups::accepted(Lattice::Torus2(40, 40)))
+}
 
-fn benched_groups(random: &mut Random) -> Vec<(String, TranslationGroup)> {
-    let lattice = |(name, lattice): (&str, Lattice)| (name.to_string(), groups::accepted(lattice));
-    let mut all: Vec<(String, TranslationGroup)> = LATTICES.map(lattice).to_vec();
-    all.push(("four rings of 32".to_string(), groups::rings(4, 32).chosen().group));
-    all.push(("torus 16 x 16, sites renumbered".to_string(), groups::shifts_of(Lattice::Torus2(16, 16)).renumbered(random).chosen().group));
-    all
+/// Buyers' own permutations: tori of cells in other numberings, and groups side by side.
+fn own_groups(random: &mut Random) -> Vec<Named> {
+    vec![
+        named("honeycomb 8 x 8, sites renumbered", sublattices(8, 8, 2).renumbered(random)),
+        named("kagome 6 x 6, sites renumbered", sublattices(6, 6, 3).renumbered(random)),
+        named("triangular 8 x 8, sites renumbered", shifts_by(8, 8, 1, &[(1, 0), (1, 1)]).renumbered(random)),
+        named("four rings of 32", groups::rings(4, 32)),
+        named("torus 8 x 8 beside chain 32", shifts_of(Lattice::Torus2(8, 8)).beside(turn(&[32]))),
+    ]
+}
+
+/// Groups of one part that do not act freely: equal generators, and orbits of different sizes.
+fn walked_groups() -> [Named; 2] {
+    [named("two equal shifts of chain 32", turn(&[32]).with_power(0, 1)), named("cycles of 32 and 48", turn(&[32, 48]))]
+}
+
+fn benched_groups(random: &mut Random) -> Vec<Named> {
+    let torus = named("torus 16 x 16, sites renumbered", shifts_of(Lattice::Torus2(16, 16)).renumbered(random));
+    lattices().into_iter().chain([torus]).chain(own_groups(random)).collect()
 }
 
 /// Rows of a sum by how their representatives follow one another.

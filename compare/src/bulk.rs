@@ -1,18 +1,24 @@
-//! Many words in one call, to be measured: ours, which is handed WORDS words in full at each call, and the Rust, which has one call a word. Times are by
-//! the word.
+//! Many words in one call, to be measured: ours, which is handed WORDS words in full at each call, or fewer where that takes too long, and the Rust, which has
+//! one call a word. Times are by the word.
 
-use crate::cases::{Group, Lattice};
+use crate::cases::Group;
+use crate::groups;
 use crate::interface::*;
 use crate::random::Random;
 use crate::rust::{bytes, read_text, value_of};
 use crate::sizes::*;
 use crate::timing::{Side, timed};
+use crate::words;
 use ppvm_pauli_sum::symmetry::group::TranslationGroup;
 use ppvm_pauli_word::word::PauliWord;
 use std::hint::black_box;
+use std::time::Duration;
 
 /// Words of one call of ours, and words that the calls of a line go round.
 pub const WORDS: usize = 256;
+
+/// How long one call of ours may take: where a word takes long it has fewer words.
+const CALL: Duration = Duration::from_millis(300);
 
 /// The bytes a plane of the Rust's words, by the sites: the most that it still rotates by masks are 128; above, it moves letters site by site.
 const MASKED_BYTES: usize = 128;
@@ -53,14 +59,14 @@ impl Call {
     }
 }
 
-/// The words of a lattice that are measured, by their kind.
-pub fn kinds(random: &mut Random, lattice: Lattice) -> [(&'static str, Vec<String>); 4] {
-    let sites = lattice.sides().iter().product();
+/// The words that are measured, by their kind.
+pub fn kinds(random: &mut Random, group: &TranslationGroup) -> [(&'static str, Vec<String>); 4] {
+    let sites = group.n_qubits();
     let mut words = |make: &dyn Fn(&mut Random) -> String| (0..WORDS).map(|_| make(random)).collect();
     [
         ("random", words(&|random| any_word(random, sites))),
         ("all I", words(&|_| "I".repeat(sites))),
-        ("period 2", words(&|random| repeated(random, lattice))),
+        ("period 2", words(&|random| repeated(random, group))),
         ("three letters", words(&|random| three_letters(random, sites))),
     ]
 }
@@ -70,24 +76,12 @@ pub fn any_word(random: &mut Random, sites: usize) -> String {
     (0..sites).map(|_| random.pick(&['I', 'X', 'Y', 'Z'])).collect()
 }
 
-/// A word of period 2 in each direction of the shifts, and of period 1 along a side that is odd. The legs of a ladder are no direction.
-fn repeated(random: &mut Random, lattice: Lattice) -> String {
-    let sides = lattice.sides();
-    let mut periods: Vec<usize> = sides.iter().map(|side| 2 - side % 2).collect();
-    if let Lattice::Ladder(_, legs) = lattice {
-        periods[1] = legs;
-    }
-    let letters: Vec<char> = any_word(random, periods.iter().product()).chars().collect();
-    let letter = |mut q: usize| {
-        let (mut cell, mut stride) = (0, 1);
-        for (side, period) in sides.iter().zip(&periods) {
-            cell += q % side % period * stride;
-            stride *= period;
-            q /= side;
-        }
-        letters[cell]
-    };
-    (0..sides.iter().product()).map(letter).collect()
+/// A word of period 2 along each generator of even order, and of period 1 along each of odd order.
+fn repeated(random: &mut Random, group: &TranslationGroup) -> String {
+    let period = |g: usize| groups::power(group.generator_perm(g), 2 - u64::from(group.generator_order(g) % 2));
+    let mut word = any_word(random, group.n_qubits()).into_bytes();
+    words::make_fixed(&mut word, &(0..group.n_generators()).map(period).collect::<Vec<_>>());
+    String::from_utf8(word).unwrap_or_else(|_| unreachable!())
 }
 
 /// A word with three letters other than I.
@@ -104,6 +98,13 @@ fn three_letters(random: &mut Random, sites: usize) -> String {
 /// The bytes of some words in full, one after the other.
 fn rows(words: &[String]) -> Vec<u8> {
     words.iter().flat_map(|word| bytes(&read_text(word.as_bytes()).unwrap_or_else(|_| unreachable!()))).collect()
+}
+
+/// Some of the words, so many that one call of ours takes no longer than CALL; all, where that is no limit.
+pub fn few<'w>(call: Call, group: &TranslationGroup, words: &'w [String]) -> &'w [String] {
+    let one = ours(call, group, &words[..1]).once();
+    let number = CALL.as_nanos() / one.as_nanos().max(1);
+    &words[..number.clamp(1, words.len() as u128) as usize]
 }
 
 /// Ours: all words in one call, by the word.

@@ -1,8 +1,9 @@
 //! Short inputs, all of them: every word of up to 4 sites under every lattice of that size and every mode list, alone and all in one call, every pair of
-//! short words, every short generator list; every entry of the table of phases; and the count of pairs that are kept.
+//! short words, every short generator list; every word of 4 to 6 sites under groups of several parts; every entry of the table of phases; and the count of
+//! pairs that are kept.
 
 use crate::cases::*;
-use crate::groups::{Generators, cycles, identity};
+use crate::groups::{Generators, cycles, fixed, identity, rings_of, shifts_by, turn};
 use crate::guard::Side;
 use crate::ours::Ours;
 use crate::rust::Rust;
@@ -42,6 +43,63 @@ fn groups(sites: usize) -> Vec<Line> {
     groups
 }
 
+/// Groups of several parts, some with equal generators or orbits of different sizes, which are taken in every numbering of their sites: of 4 and 5 sites.
+fn short_parts() -> Vec<Generators> {
+    vec![
+        rings_of(&[2, 2]),
+        turn(&[3]).beside(fixed(1)),
+        shifts_by(2, 1, 2, &[(1, 0)]),
+        shifts_by(2, 2, 1, &[(1, 0), (1, 1)]),
+        rings_of(&[2, 3]),
+        rings_of(&[2, 2]).beside(fixed(1)),
+        rings_of(&[2, 3]).with_identity(1),
+        turn(&[2, 3]),
+        turn(&[3]).with_power(0, 1).beside(turn(&[2])).in_order(&[0, 2, 1]),
+        shifts_by(2, 2, 1, &[(1, 0), (0, 1)]).beside(fixed(1)),
+    ]
+}
+
+/// The same of 6 sites, in the numbering that they have.
+fn longer_parts() -> Vec<Generators> {
+    let shuffled = |generators: Generators| generators.numbered(&[3, 0, 5, 1, 4, 2]);
+    let groups = vec![
+        rings_of(&[2, 2, 2]).in_order(&[2, 0, 1]),
+        rings_of(&[3, 3]),
+        rings_of(&[4, 2]),
+        shifts_by(2, 2, 1, &[(1, 0), (0, 1)]).beside(turn(&[2])).in_order(&[0, 2, 1]),
+        shifts_by(3, 1, 2, &[(1, 0), (0, 1)]),
+        shifts_by(2, 1, 3, &[(1, 0)]),
+        turn(&[2, 4]),
+        turn(&[1, 2]).beside(turn(&[3])),
+    ];
+    groups.into_iter().map(shuffled).collect()
+}
+
+/// A group in every numbering of its sites, each once.
+fn numberings(generators: &Generators) -> Vec<Generators> {
+    let mut seen = Vec::new();
+    for labels in permutations(generators.sites) {
+        let numbered = generators.clone().numbered(&labels);
+        if !seen.iter().any(|other: &Generators| other.permutations == numbered.permutations) {
+            seen.push(numbered);
+        }
+    }
+    seen
+}
+
+/// All words of a group of several parts: in one call, and alone in the first numbering that is not the group's own.
+fn parted_cases() -> Vec<Case> {
+    let mut cases = Vec::new();
+    for generators in short_parts() {
+        let numbered = numberings(&generators);
+        let alone = numbered.get(1).unwrap_or(&generators).line();
+        cases.extend(numbered.iter().map(|numbered| many_case(&numbered.line(), texts(generators.sites))));
+        cases.extend(texts(generators.sites).into_iter().map(|text| word_case(&alone, text)));
+    }
+    cases.extend(longer_parts().iter().map(|generators| many_case(&generators.line(), texts(generators.sites))));
+    cases
+}
+
 /// The order of each generator of a group.
 fn orders(line: &Line) -> Vec<usize> {
     let mut rust = Rust::new();
@@ -59,7 +117,8 @@ pub fn cases() -> Vec<Case> {
     let of_words = all_groups().flat_map(|(sites, line)| texts(sites).into_iter().map(move |text| word_case(&line, text)));
     let of_many = all_groups().map(|(sites, line)| many_case(&line, texts(sites)));
     let of_tables = all_groups().map(|(_, line)| table_case(&line));
-    of_words.chain(of_many).chain(of_tables).chain([phase_case()]).chain((0..=3).flat_map(compare_cases)).chain(list_cases()).collect()
+    let of_words = of_words.chain(of_many).chain(of_tables).chain(parted_cases());
+    of_words.chain([phase_case()]).chain((0..=3).flat_map(compare_cases)).chain(list_cases()).collect()
 }
 
 /// All that is asked of a word under a group, and every mode list.
@@ -161,7 +220,9 @@ fn order_of(perm: &[u32]) -> u32 {
 
 /// The groups under which kept pairs are counted, with their sites.
 pub fn counted() -> Vec<(usize, Line)> {
-    (0..=MOST_SITES).flat_map(|sites| groups(sites).into_iter().map(move |line| (sites, line))).collect()
+    let lattices = (0..=MOST_SITES).flat_map(|sites| groups(sites).into_iter().map(move |line| (sites, line)));
+    let parted = short_parts().into_iter().flat_map(|generators| numberings(&generators)).chain(longer_parts());
+    lattices.chain(parted.map(|generators| (generators.sites, generators.line()))).collect()
 }
 
 /// Over all mode lists and representatives of n sites there are 4^n pairs in which our library keeps the word.

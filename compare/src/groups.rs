@@ -51,6 +51,7 @@ pub struct Chosen {
 pub type Permutation = Vec<u32>;
 
 /// Permutations of the sites and their declared orders: what a generator list says.
+#[derive(Clone)]
 pub struct Generators {
     pub sites: usize,
     pub permutations: Vec<Permutation>,
@@ -58,6 +59,12 @@ pub struct Generators {
 }
 
 impl Generators {
+    /// Permutations with their exact orders.
+    pub fn exact(sites: usize, permutations: Vec<Permutation>) -> Generators {
+        let orders = permutations.iter().map(|permutation| exact_order(permutation) as u32).collect();
+        Generators { sites, permutations, orders }
+    }
+
     pub fn line(&self) -> Line {
         let list = self.permutations.iter().flat_map(|perm| [&[perm.len() as u32], &perm[..]].concat()).collect();
         Line::Group { sites: self.sites, list, orders: self.orders.clone() }
@@ -68,11 +75,16 @@ impl Generators {
         Chosen { line, group: TranslationGroup::from_generators(self.sites, self.permutations, self.orders) }
     }
 
-    /// The same, the sites numbered otherwise.
-    pub fn renumbered(mut self, random: &mut Random) -> Generators {
-        let labels = labels(random, self.sites);
-        self.permutations = self.permutations.iter().map(|permutation| relabelled(permutation, &labels)).collect();
+    /// The same, each site q named labels[q].
+    pub fn numbered(mut self, labels: &[u32]) -> Generators {
+        self.permutations = self.permutations.iter().map(|permutation| relabelled(permutation, labels)).collect();
         self
+    }
+
+    /// The same, the sites numbered otherwise.
+    pub fn renumbered(self, random: &mut Random) -> Generators {
+        let labels = labels(random, self.sites);
+        self.numbered(&labels)
     }
 
     /// The same, and the identity as generator g.
@@ -80,6 +92,27 @@ impl Generators {
         self.permutations.insert(g, identity(self.sites));
         self.orders.insert(g, 1);
         self
+    }
+
+    /// The same, and a power of generator g as the last.
+    pub fn with_power(self, g: usize, exponent: u64) -> Generators {
+        let power = power(&self.permutations[g], exponent);
+        Generators::exact(self.sites, [self.permutations, vec![power]].concat())
+    }
+
+    /// The same, and after its sites those of another group, which has its own generators.
+    pub fn beside(self, other: Generators) -> Generators {
+        let sites = self.sites + other.sites;
+        let before = self.permutations.into_iter().map(|permutation| [permutation, (self.sites as u32..sites as u32).collect()].concat());
+        let moved = |permutation: Permutation| permutation.into_iter().map(|target| self.sites as u32 + target);
+        let after = other.permutations.into_iter().map(|permutation| (0..self.sites as u32).chain(moved(permutation)).collect());
+        Generators { sites, permutations: before.chain(after).collect(), orders: [self.orders, other.orders].concat() }
+    }
+
+    /// The same generators in this order.
+    pub fn in_order(self, numbers: &[usize]) -> Generators {
+        let permutations = numbers.iter().map(|&g| self.permutations[g].clone()).collect();
+        Generators { sites: self.sites, permutations, orders: numbers.iter().map(|&g| self.orders[g]).collect() }
     }
 }
 
@@ -174,11 +207,32 @@ pub fn sublattices(lx: usize, ly: usize, number: usize) -> Generators {
     Generators { sites: number * cells, permutations: vec![shift(1, lx), shift(lx, ly)], orders: vec![lx as u32, ly as u32] }
 }
 
-/// So many rings of so many sites, side by side, each turning by itself.
+/// A torus of such cells, with its shifts by these numbers of cells along the two sides.
+pub fn shifts_by(lx: usize, ly: usize, number: usize, steps: &[(usize, usize)]) -> Generators {
+    let Generators { sites, permutations, .. } = sublattices(lx, ly, number);
+    let shift = |&(a, b): &(usize, usize)| after(&power(&permutations[1], b as u64), &power(&permutations[0], a as u64));
+    Generators::exact(sites, steps.iter().map(shift).collect())
+}
+
+/// Sites that nothing moves.
+pub fn fixed(sites: usize) -> Generators {
+    Generators { sites, permutations: vec![], orders: vec![] }
+}
+
+/// One generator, with cycles of these lengths.
+pub fn turn(lengths: &[usize]) -> Generators {
+    let permutation = cycles(lengths);
+    Generators::exact(permutation.len(), vec![permutation])
+}
+
+/// Rings of these lengths side by side, each turning by itself.
+pub fn rings_of(lengths: &[usize]) -> Generators {
+    lengths.iter().fold(fixed(0), |rings, &length| rings.beside(turn(&[length])))
+}
+
+/// So many rings of so many sites, likewise.
 pub fn rings(rings: usize, length: usize) -> Generators {
-    let sites = rings * length;
-    let turn = |ring: usize| (0..sites).map(|q| shifted(q, ring * length, length, 1, length) as u32).collect();
-    Generators { sites, permutations: (0..rings).map(turn).collect(), orders: vec![length as u32; rings] }
+    rings_of(&vec![length; rings])
 }
 
 /// None to four generators: products of powers of shifts that commute, powers of one another, equal ones, identities.
@@ -394,9 +448,8 @@ fn long_cycles(random: &mut Random, bounds: Bounds) -> Generators {
         lengths.pop();
     }
     let permutation = cycles(&lengths);
-    let permutations: Vec<Permutation> = (0..random.within(1..=4)).map(|_| power(&permutation, 1 + random.bits() % 3)).collect();
-    let orders = permutations.iter().map(|permutation| exact_order(permutation) as u32).collect();
-    Generators { sites: permutation.len(), permutations, orders }
+    let permutations = (0..random.within(1..=4)).map(|_| power(&permutation, 1 + random.bits() % 3)).collect();
+    Generators::exact(permutation.len(), permutations)
 }
 
 /// One or two permutations by their cycle lengths, with their exact orders or others.

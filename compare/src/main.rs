@@ -13,6 +13,7 @@ mod interface;
 mod many;
 mod orbits;
 mod ours;
+mod own;
 mod parts;
 mod projections;
 mod random;
@@ -28,7 +29,8 @@ mod words;
 
 use std::process::ExitCode;
 
-const USAGE: &str = "usage: compare/run [--seed S] [--count N] [--compare | --bench | --growth | --sample DIR | --alone PART NUMBER]";
+const USAGE: &str =
+    "usage: compare/run [--seed S] [--count N] [[--compare | --bench] [--only TEXT] | --growth | --sample DIR | --alone PART NUMBER]";
 
 /// Random cases of a default run; the parts share them.
 const COUNT: usize = 200_000;
@@ -46,16 +48,19 @@ enum Task {
 struct Arguments {
     seed: u64,
     count: usize,
+    /// What the name of a part has that is compared alone, or of a group that is measured alone.
+    only: String,
     task: Task,
 }
 
 fn arguments() -> Option<Arguments> {
-    let mut given = Arguments { seed: SEED, count: COUNT, task: Task::All };
+    let mut given = Arguments { seed: SEED, count: COUNT, only: String::new(), task: Task::All };
     let mut words = std::env::args().skip(1);
     while let Some(word) = words.next() {
         match word.as_str() {
             "--seed" => given.seed = words.next()?.parse().ok()?,
             "--count" => given.count = words.next()?.parse().ok()?,
+            "--only" => given.only = words.next()?,
             "--compare" => given.task = Task::Compare,
             "--bench" => given.task = Task::Bench,
             "--growth" => given.task = Task::Growth,
@@ -68,25 +73,29 @@ fn arguments() -> Option<Arguments> {
 }
 
 fn main() -> ExitCode {
-    let Some(Arguments { seed, count, task }) = arguments() else {
+    let Some(Arguments { seed, count, only, task }) = arguments() else {
         eprintln!("{USAGE}");
         return ExitCode::from(2);
     };
     guard::name_faults();
     let differ = match task {
         Task::All => {
-            let (compared, differ) = parts::compare_all(seed, count);
+            let (compared, differ) = parts::compare_all(seed, count, "");
             bench::lines();
             println!("{compared} compared, {differ} differ");
             differ
         }
         Task::Compare => {
-            let (compared, differ) = parts::compare_all(seed, count);
+            let (compared, differ) = parts::compare_all(seed, count, &only);
             println!("{compared} compared, {differ} differ");
+            if compared == 0 {
+                eprintln!("no part has {only} in its name");
+                return ExitCode::from(2);
+            }
             differ
         }
         Task::Bench => {
-            bench::tables();
+            bench::tables(&only);
             0
         }
         Task::Growth => {

@@ -29,12 +29,12 @@ fn group(random: &mut Random, bounds: Bounds) -> Chosen {
 }
 
 /// A word with one letter at every site.
-fn plain(group: &TranslationGroup, letter: u8) -> Vec<u8> {
+pub fn plain(group: &TranslationGroup, letter: u8) -> Vec<u8> {
     vec![letter; group.n_qubits()]
 }
 
 /// A word with so many letters other than I, at most.
-fn sparse(random: &mut Random, group: &TranslationGroup, letters: usize) -> Vec<u8> {
+pub fn sparse(random: &mut Random, group: &TranslationGroup, letters: usize) -> Vec<u8> {
     let mut word = plain(group, b'I');
     for _ in 0..letters.min(word.len()) {
         let q = random.below(word.len());
@@ -44,7 +44,7 @@ fn sparse(random: &mut Random, group: &TranslationGroup, letters: usize) -> Vec<
 }
 
 /// A word of any kind: often one that some elements fix, or with few letters, seldom with one letter alone.
-fn word(random: &mut Random, group: &TranslationGroup) -> Vec<u8> {
+pub fn word(random: &mut Random, group: &TranslationGroup) -> Vec<u8> {
     match random.below(8) {
         0 => plain(group, random.pick(b"IXYZ")),
         1..=2 => {

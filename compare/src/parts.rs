@@ -6,7 +6,7 @@ use crate::guard::{self, Side};
 use crate::ours::Ours;
 use crate::random::Random;
 use crate::rust::Rust;
-use crate::{example, exhaustive, groups, guarded, many, orbits, projections, sectors, sums, tables, words};
+use crate::{example, exhaustive, groups, guarded, many, orbits, own, projections, sectors, sums, tables, words};
 use std::time::Instant;
 
 struct Part {
@@ -55,12 +55,14 @@ fn parts(seed: u64, count: usize) -> Vec<Part> {
         random("orbits", 2_500, Bounds::common, orbits::case),
         random("sectors", 2_000, Bounds::common, sectors::case),
         random("many", 1_000, Bounds::common, many::case),
+        random("own", 500, own::bounds, own::case),
         random("sums", 500, Bounds::common, sums::case),
         random("projections", 500, Bounds::common, projections::case),
         random("tables", 250, Bounds::common, tables::case),
         random("forged", 500, Bounds::common, guarded::forged_case),
         random("large", 2, Bounds::all, orbits::large_case),
         listed("shapes", many::cases()),
+        listed("layouts", own::cases()),
         listed("exhaustive", exhaustive::cases()),
         Part { name: "pairs", count: exhaustive::counted().len(), kind: Kind::Check(Box::new(pairs)) },
         listed("guarded", guarded::cases()),
@@ -78,10 +80,10 @@ impl Part {
     }
 }
 
-/// Runs all parts, with a line for each; how many cases there were and how many differ.
-pub fn compare_all(seed: u64, count: usize) -> (usize, usize) {
+/// Runs all parts whose names have a text, with a line for each; how many cases there were and how many differ.
+pub fn compare_all(seed: u64, count: usize, only: &str) -> (usize, usize) {
     let mut total = (0, 0);
-    for part in parts(seed, count) {
+    for part in parts(seed, count).into_iter().filter(|part| part.name.contains(only)) {
         let start = Instant::now();
         let differ = compare_part(&part, seed);
         println!("{}: {} compared, {differ} differ, {:.1} s", part.name, part.count, start.elapsed().as_secs_f64());

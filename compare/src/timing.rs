@@ -3,7 +3,7 @@
 use std::time::{Duration, Instant};
 
 /// How long the sides together may take, how many rounds they have at least, and how long a round of one side takes at least.
-const BUDGET: Duration = Duration::from_secs(3);
+const BUDGET: Duration = Duration::from_secs(2);
 const LEAST_ROUNDS: usize = 5;
 const LEAST_ROUND: Duration = Duration::from_micros(500);
 

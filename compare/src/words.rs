@@ -1,7 +1,7 @@
 //! Words: random, sparse, and periodic ones; and the cases that read, write, weigh and compare them.
 
 use crate::cases::*;
-use crate::groups::{Bounds, element, site_count};
+use crate::groups::{Bounds, Permutation, element, site_count};
 use crate::random::Random;
 use crate::rust::{bytes, read_text};
 use crate::sizes::*;
@@ -21,22 +21,21 @@ pub fn text(random: &mut Random, sites: usize) -> Vec<u8> {
 pub fn word(random: &mut Random, group: &TranslationGroup) -> Vec<u8> {
     let mut word = text(random, group.n_qubits());
     if random.once_in(2) {
-        make_fixed(&mut word, &element(group, random.below(group.order())));
+        make_fixed(&mut word, &[element(group, random.below(group.order()))]);
     }
     word
 }
 
-/// Makes a word fixed by a permutation: each cycle takes the letter of its first site.
-fn make_fixed(word: &mut [u8], permutation: &[u32]) {
+/// Makes a word fixed by some permutations: the sites that they carry into one another take the letter of the first of them.
+pub fn make_fixed(word: &mut [u8], permutations: &[Permutation]) {
+    let mut seen = vec![false; word.len()];
     for start in 0..word.len() {
-        let mut q = permutation[start] as usize;
-        while q > start {
-            q = permutation[q] as usize;
-        }
-        if q == start {
-            while permutation[q] as usize != start {
-                q = permutation[q] as usize;
+        let mut next = vec![start];
+        while let Some(q) = next.pop() {
+            if !seen[q] {
+                seen[q] = true;
                 word[q] = word[start];
+                next.extend(permutations.iter().map(|permutation| permutation[q] as usize));
             }
         }
     }

@@ -27,11 +27,11 @@ use Rattle.action.specs.Index.{orderOf}
 use Rattle.group.specs.declared.Group.{Group}
 use Rattle.group.specs.Value.{generatorsOf, isGroup}
 use Rattle.group.proofs.Accepted.{accepted-by, accepted-tables}
-use Rattle.row_lists.specs.Rows.{rowsInFull}
+use Rattle.row_lists.specs.Rows.{rowsInFull, noWord}
 use Rattle.row_lists.specs.Checks.{bitsAboveSites}
-use Rattle.orbit.specs.Calls.{isWalk, noWord, noWalk, nextOutcome, entry, finished, walkIn}
+use Rattle.orbit.specs.Calls.{isWalk, noWalk, nextOutcome, entry, finished, walkIn}
 use Rattle.orbit.specs.Words.{wordsChecks, wordsOutcome}
-use Rattle.momentum.specs.Calls.{kept, dropped}
+use Rattle.decisions.specs.Decisions.{kept, dropped}
 use Rattle.momentum.specs.Words.{sectorWordsChecks, sectorWordsOutcome}
 use Rattle.text.specs.Text.{lineEnd, pieces}
 use Rattle.phases.specs.Table.{phaseTable}

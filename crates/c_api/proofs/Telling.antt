@@ -2,7 +2,8 @@
 use mathlib.Core.Path.{_≡_, refl, ap, _∙_}
 use mathlib.Core.Bool.{false}
 use Rattle.outcome.specs.Outcome.{Outcome, refused, answer, onAnswer, orElse}
-use Rattle.momentum.specs.Calls.{Decision, kept, dropped, Row, sizeOf}
+use Rattle.momentum.specs.Calls.{sizeOf}
+use Rattle.decisions.specs.Decisions.{Decision, kept, dropped, Row}
 use Rattle.c_api.specs.Told.{numberOf, valuesOf, sizeIn, rowSize, isKept, dropIndex}
 
 module _ {A B : Type 0} (f : A → B) (o : Outcome A) {p : Outcome B} (e : p ≡ onAnswer f o) where

@@ -8,7 +8,7 @@ use Rattle.outcome.specs.Outcome.{Outcome, refused, answer}
 use Rattle.pauli_word.specs.declared.Ordering.{Ordering}
 use Rattle.pauli_word.specs.declared.Ordering.the-variants.{Less, Same, Greater}
 use Rattle.orbit.specs.Calls.{Entry, entry, finished}
-use Rattle.momentum.specs.Calls.{Decision, kept, dropped, Row}
+use Rattle.decisions.specs.Decisions.{Decision, kept, dropped, Row}
 use Rattle.project.specs.Calls.{ProjectedSum}
 use Rattle.sheet_text.specs.Sheet.{Page, tablePage, refusalPage}
 

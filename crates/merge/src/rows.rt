@@ -4,69 +4,16 @@ ghost use Prim.Native.Nat.{_*_};
 ghost use lib.ListN.{length};
 ghost use Rattle.pauli_word.specs.Limits.{wordLength};
 ghost use Rattle.pauli_word.specs.Bytes.{EitherLength};
-ghost use Rattle.action.specs.Index.{orderOf};
-ghost use Rattle.paths.specs.Paths.{Taken, wordsOf};
 ghost use Rattle.elements.specs.HeldGroup.{generatorsIn, Tables, encodeAll};
 ghost use Rattle.row_lists.specs.Rows.{inFullBy};
 ghost use Rattle.row_lists.specs.Checks.{AcceptedRows};
 ghost use Rattle.merge.specs.Calls.{leastRows};
-use packed::PLANE_WORDS;
-use paths::plan::Path;
-use pauli_word::WORD_BYTES;
-use permutation::MAX_GENERATORS;
-use rotation::planes::MASK_WORDS;
+use row_lists::MAX_ROWS;
 
-// Writes the least word of each row's orbit into the row of the same number, by the path of the group; the input's rows have `size` bytes each.
-pub fn representatives_by(
-    path: Path,
-    targets: &[u16],
-    orders: &[u32],
-    generators: usize,
-    sites: usize,
-    strides: &[usize],
-    rests: &[usize],
-    masks: &[u64],
-    order: usize,
-    words: &[u8],
-    size: usize,
-    rows: usize,
-    left: &mut [u64],
-    out: &mut [u8],
-)
-    requires { ⌜ Tables generators sites (now targets) (now orders) ⌝ }
-    requires { ⌜ Taken path generators sites order (now targets) (now orders) (now strides) (now rests) (now masks) ⌝ }
-    requires { ⌜ order ≡ orderOf (generatorsIn generators sites (now targets) (now orders)) ⌝ }
-    requires { ⌜ length (now left) ≡ wordsOf path ⌝ }
-    requires { ⌜ EitherLength size × (length (now words) ≡ size * rows) ⌝ }
-    requires { ⌜ AcceptedRows sites (inFullBy size rows (now words)) rows ⌝ }
-    requires { ⌜ length (now out) ≡ wordLength * rows ⌝ }
-    ensures { λ _. ⌜ now (out .exit) ≡ encodeAll (leastRows (generatorsIn generators sites (now (targets .entry)) (now (orders .entry))) sites (inFullBy size rows (now (words .entry))) rows) ⌝ }
-{
-    let mut i = 0;
-    while i < rows {
-        let at = WORD_BYTES * i;
-        let end = at + WORD_BYTES;
-        orbit::rows::least_row(
-            path,
-            targets,
-            orders,
-            generators,
-            sites,
-            strides,
-            rests,
-            masks,
-            order,
-            words,
-            size,
-            i,
-            left,
-            &mut out[at..end],
-        );
-        i += 1;
-    }
-}
+// Up to so many rows a call clears room for their indices alone, and not for those of MAX_ROWS.
+const FEW_ROWS: usize = 256;
 
-// Writes the least word of each row's orbit into the row of the same number; the input's rows have `size` bytes each. The path of the group is found once.
+// Writes the least word of each row's orbit into the row of the same number; the input's rows have `size` bytes each. Their indices are not kept.
 pub fn representatives(
     targets: &[u16],
     orders: &[u32],
@@ -83,36 +30,29 @@ pub fn representatives(
     requires { ⌜ length (now out) ≡ wordLength * rows ⌝ }
     ensures { λ _. ⌜ now (out .exit) ≡ encodeAll (leastRows (generatorsIn generators sites (now (targets .entry)) (now (orders .entry))) sites (inFullBy size rows (now (words .entry))) rows) ⌝ }
 {
-    let order = elements::index::order(targets, orders, generators, sites);
-    let mut strides = [0usize; MAX_GENERATORS];
-    let mut rests = [0usize; MAX_GENERATORS];
-    let mut masks = [0u64; MASK_WORDS];
-    let path = paths::plan::find_path(
+    if rows <= FEW_ROWS {
+        let mut few = [0usize; FEW_ROWS];
+        least_words::rows::least_rows(
+            targets,
+            orders,
+            generators,
+            sites,
+            words,
+            size,
+            out,
+            &mut few[0..rows],
+        );
+        return;
+    }
+    let mut indices = [0usize; MAX_ROWS];
+    least_words::rows::least_rows(
         targets,
         orders,
         generators,
         sites,
-        order,
-        &mut strides,
-        &mut rests,
-        &mut masks,
-    );
-    let room = path.words();
-    let mut left = [0u64; PLANE_WORDS];
-    representatives_by(
-        path,
-        targets,
-        orders,
-        generators,
-        sites,
-        &strides,
-        &rests,
-        &masks,
-        order,
         words,
         size,
-        rows,
-        &mut left[0..room],
         out,
+        &mut indices[0..rows],
     );
 }

@@ -12,7 +12,7 @@ use Rattle.action.specs.Orbit.{orbit}
 use Rattle.action.specs.Sector.{keeps}
 use Rattle.action.specs.Count.{keptLists, keptPairs}
 use Rattle.action.proofs.Theorems as Action
-use Rattle.momentum.specs.Calls.{kept, dropped, Row, decision}
+use Rattle.decisions.specs.Decisions.{kept, dropped, Row, decision}
 use Rattle.momentum.specs.Counts.{isKept}
 
 -- by whether the modes keep the word

@@ -31,7 +31,8 @@ use Rattle.orbit.specs.Calls.{withIndexOutcome}
 use Rattle.orbit.specs.Walked.{CanonicalAnswer}
 use Rattle.orbit.proofs.Promises.{canonical-answer, with-index-either}
 use Rattle.group.proofs.Promises.{given-group}
-use Rattle.momentum.specs.Calls.{numeratorOutcome, numerators, tableOutcome, kept, dropped, Row, decision, sectorOutcome}
+use Rattle.momentum.specs.Calls.{numeratorOutcome, tableOutcome, sectorOutcome}
+use Rattle.decisions.specs.Decisions.{numerators, kept, dropped, Row, decision}
 use Rattle.momentum.specs.Counts.{acceptedWords, isOwn, isKept, pairs}
 use Rattle.momentum.proofs.CountPairs as Pairs
 use Rattle.momentum.proofs.Words as Words

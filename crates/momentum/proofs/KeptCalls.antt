@@ -31,13 +31,14 @@ use Rattle.group.specs.declared.Group.{Group}
 use Rattle.group.specs.Value.{GivenBy, generatorsOf}
 use Rattle.orbit.specs.Calls.{wordCallChecks, withIndexOutcome}
 use Rattle.group.specs.Calls.{listLength}
-use Rattle.momentum.specs.Calls.{modeCount, kept, dropped, Row, decision, sectorOutcome}
+use Rattle.momentum.specs.Calls.{modeCount, sectorOutcome}
+use Rattle.decisions.specs.Decisions.{kept, dropped, Row, decision}
 use Rattle.momentum.specs.Counts.{acceptedWords, isOwn, isKept, pairs}
 use Rattle.momentum.proofs.Decided.{kept-by, decides, decided-pairs, decided-lists}
 use Rattle.momentum.proofs.CountPairs.{count-pairs, count-both, total-select}
 use Rattle.momentum.proofs.Words.{sameNumbers-encode}
 use Rattle.momentum.proofs.Modes.{modes-length}
-use Rattle.momentum.proofs.Placing.{decision-drops}
+use Rattle.decisions.proofs.Placing.{decision-drops}
 use Rattle.momentum.proofs.Outcomes.{sector-decision}
 use Rattle.momentum.proofs.GivenGroups.{given-accepted, given-valid, given-length, given-sites}
 use Rattle.orbit.proofs.WordCalls.{word-call-passes}

@@ -17,7 +17,7 @@ use Rattle.action.specs.Sector.{reducedModes, reducedDigits, Modes, trivial, ke
 use Rattle.action.specs.Count.{allModes}
 use Rattle.action.proofs.Index.{Positive, order-of-positive}
 use Rattle.action.proofs.Characters.{modes-reduced, numerator-reduced-modes}
-use Rattle.momentum.proofs.Remainders.{reduced-below}
+use Rattle.decisions.proofs.Remainders.{reduced-below}
 
 modes-proper-length : (gs : List Generator) (ks : List ℤ) → Modes gs ks → length ks ≡ length gs
 modes-proper-length [] [] h = refl

@@ -17,7 +17,8 @@ use Rattle.group.specs.declared.Group.{Group}
 use Rattle.group.specs.Value.{GivenBy, generatorsOf}
 use Rattle.group.specs.Calls.{valueChecks, listLength}
 use Rattle.outcome.proofs.Outcomes.{unless-answer}
-use Rattle.momentum.specs.Calls.{modeCount, numeratorOutcome, numerators, tableOutcome, decision, sectorOutcome}
+use Rattle.momentum.specs.Calls.{modeCount, numeratorOutcome, tableOutcome, sectorOutcome}
+use Rattle.decisions.specs.Decisions.{numerators, decision}
 use Rattle.momentum.proofs.Outcomes as Outcomes
 use Rattle.momentum.proofs.GivenGroups.{given-passes, given-valid, given-length}
 use Rattle.momentum.proofs.Modes.{reducedModes-length, reducedDigits-length, reduced-listed, keeps-reduced, dropped-reduced}

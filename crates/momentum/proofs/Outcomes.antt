@@ -25,7 +25,8 @@ use Rattle.orbit.specs.Calls.{wordCallChecks}
 use Rattle.group.specs.Calls.{valueChecks, listLength}
 use Rattle.group.proofs.Accepted.{value-fine}
 use Rattle.outcome.proofs.Outcomes.{call-refused, front-refused, call-answers, verdict-append}
-use Rattle.momentum.specs.Calls.{modeCount, numeratorOutcome, numerators, tableOutcome, decision, sectorOutcome}
+use Rattle.momentum.specs.Calls.{modeCount, numeratorOutcome, tableOutcome, sectorOutcome}
+use Rattle.decisions.specs.Decisions.{numerators, decision}
 use Rattle.orbit.proofs.WordCalls.{checks-full}
 
 module _ (g : Group) (pass : verdict (valueChecks g) ≡ answer tt) where

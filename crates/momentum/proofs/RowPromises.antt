@@ -8,7 +8,8 @@ use lib.ListN.{length, getD}
 use Rattle.outcome.specs.Outcome.{answer}
 use Rattle.group.specs.declared.Group.{Group}
 use Rattle.row_lists.specs.Rows.{rowBy, rowSize}
-use Rattle.momentum.specs.Calls.{Decision, dropped, Row, sectorOutcome}
+use Rattle.momentum.specs.Calls.{sectorOutcome}
+use Rattle.decisions.specs.Decisions.{Decision, dropped, Row}
 use Rattle.momentum.specs.Words.{sectorWordsOutcome}
 use Rattle.momentum.proofs.RowCalls as Rows
 

@@ -1,25 +1,23 @@
 -- What each call of this crate comes to: its checks in their order, then its answer; and what each answer's cases mean.
 use Prim.Native.Nat.{ℕ}
-use mathlib.Core.Bool.{not, cond}
-use mathlib.Core.List.{List, [], _∷_, _++_, map}
+use mathlib.Core.Bool.{not}
+use mathlib.Core.List.{List, [], _∷_, _++_}
 use lib.Dec.{eqb}
 use lib.IntN.{ℤ}
 use lib.ListN.{length}
 use Rattle.outcome.specs.declared.Refusal.the-variants as Refusal
 use Rattle.outcome.specs.Outcome.{Outcome, answer, refusalOf, Check, rule, unless}
-use Rattle.pauli_word.specs.Word.{Word}
-use Rattle.action.specs.Lists.{below}
 use Rattle.action.specs.Permutation.{Generator}
 use Rattle.action.specs.Index.{orderOf, digits}
-use Rattle.action.specs.Orbit.{least, indexBack, orbitSize}
-use Rattle.action.specs.Sector.{numerator, keeps, droppedBy}
+use Rattle.action.specs.Sector.{numerator}
 use Rattle.group.specs.declared.Group.{Group}
 use Rattle.group.specs.Value.{generatorsOf}
-use Rattle.orbit.specs.Calls.{wordCallChecks, noWord}
+use Rattle.orbit.specs.Calls.{wordCallChecks}
 use Rattle.group.specs.Calls.{valueChecks, listLength}
 use Rattle.momentum.specs.declared.Sector.{Sector}
 use Rattle.momentum.specs.declared.Sector.the-variants as Sector
-use Rattle.pauli_word.specs.Bytes.{bytesOf, wordIn}
+use Rattle.pauli_word.specs.Bytes.{wordIn}
+use Rattle.decisions.specs.Decisions.{numerators, Decision, kept, dropped, Row, decision}
 
 -- 18: mode count is not the generator count
 abbrev pub modeCount : Group → List ℤ → Check
@@ -36,30 +34,11 @@ numeratorOutcome g ks cs = unless (valueChecks g ++ (modeCount g ks ∷ counterL
 
 -- ---- character_table: 1, 14, 18, 21, then the numerator of every index; k is the length of the lent list
 
-unfoldable pub numerators : List Generator → List ℤ → List ℕ
-numerators gs ks = map (λ i. numerator gs ks (digits gs i)) (below (orderOf gs))
-
 unfoldable pub tableOutcome : Group → List ℤ → ℕ → Outcome (List ℕ)
 tableOutcome g ks k =
     unless (valueChecks g ++ (modeCount g ks ∷ listLength k (orderOf (generatorsOf g)) ∷ [])) (answer (numerators (generatorsOf g) ks))
 
 -- ---- canonicalize_in_sector: 1, 14, 15, 36, 16, 17, 18, 21, then the decision; k is the length of the counter list
-
--- whether modes keep a word, with what goes with a kept one, and the index that drops a dropped one
-pub data Decision (A : Type 0) : Type 0 where
-  kept : A → Decision A
-  dropped : ℕ → Decision A
-
--- what goes with a kept word: the least word of its orbit, the index that leads from it back to the word, and the orbit size
-pub record Row : Type 0 where
-  pub word : Word
-  pub index : ℕ
-  pub size : ℕ
-
--- dropped exactly if some index that fixes the word has a numerator other than 0, by the smallest such index
-unfoldable pub decision : List Generator → List ℤ → Word → Decision Row
-decision gs ks w =
-    cond (keeps gs ks w) (kept (record { word = least gs w; index = indexBack gs w; size = orbitSize gs w })) (dropped (droppedBy gs ks w))
 
 unfoldable pub sectorOutcome : Group → ℕ → List ℕ → List ℤ → ℕ → Outcome (Decision Row)
 sectorOutcome g n bytes ks k =
@@ -75,11 +54,6 @@ outcomeOfSector (Sector.Refused why) = refusalOf why
 abbrev pub sizeOf : Decision Row → Decision ℕ
 sizeOf (kept r) = kept (r .size)
 sizeOf (dropped i) = dropped i
-
--- the word beside the answer: zeros beside a dropped one
-abbrev pub rowWord : Decision Row → List ℕ
-rowWord (kept r) = bytesOf (r .word)
-rowWord (dropped i) = noWord
 
 -- the counter list afterwards: the digits of the index, or as it was where the word is dropped
 abbrev pub rowCounter : List Generator → List ℕ → Decision Row → List ℕ

@@ -6,7 +6,7 @@ use Rattle.outcome.specs.Outcome.{Outcome, refused, answer}
 use Rattle.pauli_word.specs.Word.{Word}
 use Rattle.action.specs.Count.{allWords}
 use Rattle.orbit.specs.Calls.{wordOf}
-use Rattle.momentum.specs.Calls.{Decision, kept, dropped, Row}
+use Rattle.decisions.specs.Decisions.{Decision, kept, dropped, Row}
 use Rattle.pauli_word.specs.Bytes.{bytesOf}
 use Rattle.action.specs.Lists.{sameNumbers}
 

@@ -2,4 +2,3 @@
 pub mod Calls
 pub mod Words
 pub mod Counts
-pub mod Parts

@@ -5,19 +5,20 @@ ghost use Rattle.outcome.specs.Outcome.{answer, verdict, onAnswer, orElse, done
 ghost use Rattle.pauli_word.specs.Bytes.{AcceptedWord};
 ghost use Rattle.group.specs.Value.{groupIn, generatorsOf};
 ghost use Rattle.group.specs.Calls.{valueChecks};
-ghost use Rattle.orbit.specs.Calls.{wordCallChecks, noWord};
-ghost use Rattle.momentum.specs.Calls.{numeratorOutcome, tableOutcome, sectorOutcome, outcomeOfSector, sizeOf, rowWord, rowCounter};
+ghost use Rattle.orbit.specs.Calls.{wordCallChecks};
+ghost use Rattle.row_lists.specs.Rows.{noWord};
+ghost use Rattle.momentum.specs.Calls.{numeratorOutcome, tableOutcome, sectorOutcome, outcomeOfSector, sizeOf, rowCounter};
+ghost use Rattle.decisions.specs.Decisions.{rowWord};
 use crate::InSector;
 use crate::Sector;
-use crate::inner;
-use crate::inner::Placement;
-use crate::phase;
 use outcome::Number;
 use outcome::Refusal;
 use outcome::Verdict;
 use pauli_word::WORD_BYTES;
 use permutation::MAX_GENERATORS;
 use permutation::TARGET_PLACES;
+use decisions::phase;
+use decisions::placement::Placement;
 
 // 18, 20, then the numerator of a counter.
 pub fn numerator_of<'a>(
@@ -117,7 +118,7 @@ pub fn decided<'a>(
     ensures word { λ r. ⌜ r .word ≡ orElse rowWord noWord (sectorOutcome (groupIn sites generators (now (orders .entry)) (now (targets .entry))) sites (now (word .entry)) (now (modes .entry)) (length (now (counter .entry)))) ⌝ }
     ensures counter { λ _. ⌜ now (counter .exit) ≡ orElse (rowCounter (generatorsOf (groupIn sites generators (now (orders .entry)) (now (targets .entry)))) (now (counter .entry))) (now (counter .entry)) (sectorOutcome (groupIn sites generators (now (orders .entry)) (now (targets .entry))) sites (now (word .entry)) (now (modes .entry)) (length (now (counter .entry)))) ⌝ }
 {
-    let found = inner::placement_of(targets, orders, generators, sites, word, modes);
+    let found = sector_rows::word::placement_of(targets, orders, generators, sites, word, modes);
     let answer = found.answer;
     let Placement::Kept(index, size) = answer else {
         return no_row(Sector::Dropped(answer.index()));

@@ -3,9 +3,11 @@ ghost use mathlib.Core.Path.{_≡_};
 ghost use lib.ListN.{length};
 ghost use Rattle.outcome.specs.Outcome.{onAnswer, orElse, done, itself, outcomeOfNumber, outcomeOfVerdict};
 ghost use Rattle.group.specs.Value.{groupIn, generatorsOf};
-ghost use Rattle.orbit.specs.Calls.{noWord};
-ghost use Rattle.momentum.specs.Calls.{numeratorOutcome, tableOutcome, sectorOutcome, outcomeOfSector, sizeOf, rowWord, rowCounter};
-ghost use Rattle.momentum.specs.Words.{sectorWordsOutcome, sectorWords, sectorIndices, sectorSizes};
+ghost use Rattle.row_lists.specs.Rows.{noWord};
+ghost use Rattle.momentum.specs.Calls.{numeratorOutcome, tableOutcome, sectorOutcome, outcomeOfSector, sizeOf, rowCounter};
+ghost use Rattle.decisions.specs.Decisions.{rowWord};
+ghost use Rattle.momentum.specs.Words.{sectorWordsOutcome};
+ghost use Rattle.sector_rows.specs.Rows.{sectorWords, sectorIndices, sectorSizes};
 use crate::InSector;
 use crate::Sector;
 use crate::calls;
@@ -108,7 +110,7 @@ pub fn sector_words<'a>(
         Verdict::Refused(why) => Verdict::Refused(why),
         Verdict::Accepted => {
             let size = row_lists::checks::row_size(words.len(), indices.len());
-            rows::place_rows(
+            sector_rows::rows::place_rows(
                 targets,
                 orders,
                 generators,

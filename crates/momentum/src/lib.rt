@@ -4,19 +4,17 @@
 // No call here asks anything of its caller: bad input is refused by number, lent lists are then as they were, and what comes back beside
 // a refusal passes for nothing.
 mod calls;
-pub mod inner;
-mod leading;
 pub mod lent;
-mod phase;
 mod rows;
-mod stabilizer;
 
 ghost use mathlib.Core.Path.{_≡_};
 ghost use lib.ListN.{length};
 ghost use Rattle.outcome.specs.Outcome.{onAnswer, orElse, done, itself, outcomeOfNumber, outcomeOfVerdict};
-ghost use Rattle.orbit.specs.Calls.{noWord};
-ghost use Rattle.momentum.specs.Calls.{numeratorOutcome, tableOutcome, sectorOutcome, outcomeOfSector, sizeOf, rowWord, rowCounter};
-ghost use Rattle.momentum.specs.Words.{sectorWordsOutcome, sectorWords, sectorIndices, sectorSizes};
+ghost use Rattle.row_lists.specs.Rows.{noWord};
+ghost use Rattle.momentum.specs.Calls.{numeratorOutcome, tableOutcome, sectorOutcome, outcomeOfSector, sizeOf, rowCounter};
+ghost use Rattle.decisions.specs.Decisions.{rowWord};
+ghost use Rattle.momentum.specs.Words.{sectorWordsOutcome};
+ghost use Rattle.sector_rows.specs.Rows.{sectorWords, sectorIndices, sectorSizes};
 ghost use Rattle.group.specs.Value.{generatorsOf};
 use group::Group;
 use outcome::Number;

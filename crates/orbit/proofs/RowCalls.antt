@@ -4,7 +4,7 @@
 -- word tests.
 use Prim.Native.Nat.{ℕ, _<_}
 use mathlib.Core.Path.{_≡_, refl, sym, ap, subst, _∙_}
-use mathlib.Core.List.{List, [], _++_, map, map-map}
+use mathlib.Core.List.{List, [], _++_}
 use lib.ListN.{length, getD}
 use Rattle.outcome.specs.declared.Refusal.{Refusal}
 use Rattle.outcome.specs.Outcome.{Outcome, answer, refusalOf, verdict, given, Check}
@@ -13,11 +13,7 @@ use Rattle.pauli_word.specs.Word.{Word}
 use Rattle.pauli_word.specs.Bytes.{Bytes, EitherLength, lettersIn, wordIn}
 use Rattle.pauli_word.specs.Calls.{pastOld}
 use Rattle.pauli_word.proofs.Checks.{either-true}
-use Rattle.action.specs.Lists.{below}
-use Rattle.action.specs.Permutation.{Generator}
-use Rattle.action.specs.Orbit.{least, indexBack}
 use Rattle.action.proofs.Below.{map-below-at, map-below-length}
-use Rattle.elements.specs.HeldGroup.{encodeAll}
 use Rattle.group.specs.declared.Group.{Group}
 use Rattle.group.specs.Value.{generatorsOf}
 use Rattle.group.specs.Calls.{valueChecks}
@@ -28,8 +24,9 @@ use Rattle.row_lists.proofs.Rows.{length-by}
 use Rattle.row_lists.proofs.InFull.{size-either, row-inside, full-row}
 use Rattle.row_lists.proofs.ListChecks.{Agreeing, given-answered}
 use Rattle.row_lists.proofs.WordLists.{word-lists-agree, word-lists-clear, word-lists-accepted}
-use Rattle.orbit.specs.Calls.{wordCallChecks, withIndexOutcome, indexOf}
-use Rattle.orbit.specs.Words.{wordsChecks, rowLetters, leastWithIndex, answeredRows, wordsOutcome, wordsOf, indicesOf}
+use Rattle.least_words.specs.Rows.{rowLetters, leastWithIndex, answeredRows}
+use Rattle.orbit.specs.Calls.{wordCallChecks, withIndexOutcome}
+use Rattle.orbit.specs.Words.{wordsChecks, wordsOutcome}
 use Rattle.orbit.proofs.WordCalls.{word-passes}
 
 -- ---- checks of a value, and then of lists of rows
@@ -72,18 +69,6 @@ module _ (g : Group) (value : verdict (valueChecks g) ≡ answer tt) (words : Li
   -- and its letters are those of row i in full
   pub row-letters : rowLetters (g .sites) (rowsInFull k words) i ≡ wordIn (g .sites) handed
   row-letters = ap (lettersIn (g .sites)) (full-row (rowSize (length words) k) (size-either (length words) k) k words (agree .wordsLong) i h)
-
--- ---- the output lists
-
-module _ (gs : List Generator) (n : ℕ) (words : List ℕ) (k : ℕ) where
-  -- the bytes of the least words, and the indices, row by row
-  pub answered-words : encodeAll (map (λ i. least gs (rowLetters n words i)) (below k)) ≡ wordsOf (answeredRows gs n words k)
-  unfolding answeredRows
-  answered-words = ap encodeAll (sym (map-map (λ row. row .0) (λ i. leastWithIndex gs (rowLetters n words i)) (below k)))
-
-  pub answered-indices : map (λ i. indexBack gs (rowLetters n words i)) (below k) ≡ indicesOf (answeredRows gs n words k)
-  unfolding answeredRows
-  answered-indices = sym (map-map indexOf (λ i. leastWithIndex gs (rowLetters n words i)) (below k))
 
 -- ---- the call
 

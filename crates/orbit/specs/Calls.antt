@@ -3,7 +3,6 @@ use Prim.Native.Nat.{ℕ, suc, _*_}
 use mathlib.Core.Bool.{Bool, _&&_, not, cond}
 use mathlib.Core.List.{List, [], _∷_, _++_}
 use lib.Dec.{ltb, leb, eqb}
-use lib.ListN.{replicate}
 use Rattle.outcome.specs.declared.Refusal.the-variants as Refusal
 use Rattle.outcome.specs.Outcome.{Outcome, answer, refusalOf, Check, rule, unless}
 use Rattle.pauli_word.specs.Limits.{wordLength}
@@ -13,6 +12,7 @@ use Rattle.pauli_word.specs.Calls.{siteCount, wordSize, oldSize, bitAbove, clea
 use Rattle.action.specs.Index.{orderOf, digits}
 use Rattle.action.specs.Orbit.{stepped, orbitList, least, indexBack}
 use Rattle.permutation.specs.Limits.{maxOrder}
+use Rattle.row_lists.specs.Rows.{noWord}
 use Rattle.group.specs.declared.Group.{Group}
 use Rattle.group.specs.Value.{noGroup, generatorsOf, isGroup, notAGroup}
 use Rattle.group.specs.Calls.{listLength}
@@ -60,10 +60,6 @@ unfoldable pub orbitListOutcome : Group → ℕ → List ℕ → ℕ → Outcome
 orbitListOutcome g n bytes k =
     unless (wordCallChecks g n bytes ++ (listLength k (wordLength * orderOf (generatorsOf g)) ∷ []))
     (answer (orbitList (generatorsOf g) (wordIn n bytes)))
-
--- the bytes beside an answer without a word
-abbrev pub noWord : List ℕ
-noWord = replicate wordLength 0
 
 -- ---- the walk
 

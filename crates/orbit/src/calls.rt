@@ -5,9 +5,9 @@ ghost use Rattle.outcome.specs.Outcome.{answer, verdict, outcomeOfVerdict, onAn
 ghost use Rattle.pauli_word.specs.Bytes.{AcceptedWord};
 ghost use Rattle.elements.specs.HeldGroup.{encodeAll};
 ghost use Rattle.group.specs.Value.{groupIn};
-ghost use Rattle.orbit.specs.Calls.{wordCallChecks, withShiftOutcome, wordOf, shiftOf, orbitListOutcome, noWord};
+ghost use Rattle.orbit.specs.Calls.{wordCallChecks, withShiftOutcome, wordOf, shiftOf, orbitListOutcome};
+ghost use Rattle.row_lists.specs.Rows.{noWord};
 use crate::Canonical;
-use crate::inner;
 use outcome::Refusal;
 use outcome::Verdict;
 use pauli_word::WORD_BYTES;
@@ -35,7 +35,7 @@ pub fn shift_of<'a>(
             word: [0u8; WORD_BYTES],
         };
     }
-    let found = inner::least_of(targets, orders, generators, sites, word);
+    let found = least_words::word::least_of(targets, orders, generators, sites, word);
     elements::index::fill_counter(targets, orders, generators, sites, found.index, counter);
     let least = found.word;
     Canonical {

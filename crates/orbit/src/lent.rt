@@ -5,8 +5,10 @@ ghost use Rattle.outcome.specs.Outcome.{outcomeOfVerdict, outcomeOfNumber, onAn
 ghost use Rattle.pauli_word.specs.Bytes.{bytesOf};
 ghost use Rattle.elements.specs.HeldGroup.{encodeAll};
 ghost use Rattle.group.specs.Value.{groupIn};
-ghost use Rattle.orbit.specs.Words.{wordsOutcome, wordsOf, indicesOf};
-ghost use Rattle.orbit.specs.Calls.{canonicalizeOutcome, withIndexOutcome, withShiftOutcome, orbitListOutcome, noWord, wordOf, indexOf, shiftOf, beginOutcome, noWalk, walkIn, outcomeOfStep, nextOutcome, entryWord, afterEntry};
+ghost use Rattle.least_words.specs.Rows.{wordsOf, indicesOf};
+ghost use Rattle.orbit.specs.Words.{wordsOutcome};
+ghost use Rattle.orbit.specs.Calls.{canonicalizeOutcome, withIndexOutcome, withShiftOutcome, orbitListOutcome, wordOf, indexOf, shiftOf, beginOutcome, noWalk, walkIn, outcomeOfStep, nextOutcome, entryWord, afterEntry};
+ghost use Rattle.row_lists.specs.Rows.{noWord};
 use crate::Canonical;
 use crate::CanonicalIndex;
 use crate::Step;
@@ -48,7 +50,7 @@ pub fn canonicalize_with_index<'a>(
         },
         Verdict::Accepted => {
             let full = pauli_word::inner::in_full(word);
-            let least = inner::least_of(targets, orders, generators, sites, &full);
+            let least = least_words::word::least_of(targets, orders, generators, sites, &full);
             let found = least.word;
             CanonicalIndex {
                 answer: Number::Value(least.index),
@@ -138,7 +140,7 @@ pub fn canonicalize_words<'a>(
         Verdict::Refused(why) => Verdict::Refused(why),
         Verdict::Accepted => {
             let size = row_lists::checks::row_size(words.len(), indices.len());
-            rows::least_rows(
+            least_words::rows::least_rows(
                 targets,
                 orders,
                 generators,

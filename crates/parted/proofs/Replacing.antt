@@ -34,7 +34,7 @@ module _ {m : ℕ} (few : m ≤ maxSites) (site : ℕ → ℕ) (w : Word) {bytes
   read-letters = encoded-decode planeLength (readBy m site w) (readBy-length m site w) few e
 
   module _ {hs : List Generator} (v : Valid m hs) {out : List ℕ} (f : out ≡ bytesOf (least hs (lettersIn m bytes))) where
-    least-bytes : out ≡ bytesOf (least hs (readBy m site w))
+    pub least-bytes : out ≡ bytesOf (least hs (readBy m site w))
     least-bytes = f ∙ ap (λ (x : Word). bytesOf (least hs x)) read-letters
 
     pub least-long : length (least hs (readBy m site w)) ≡ m

@@ -20,16 +20,18 @@ use Rattle.action.specs.Index.{orderOf}
 use Rattle.action.specs.Orbit.{least, forward, indexBack}
 use Rattle.action.proofs.Lists.{of-member-at}
 use Rattle.action.proofs.Below.{map-below-at}
-use Rattle.action.proofs.Index.{Positive, valid-positive}
+use Rattle.action.proofs.Index.{valid-positive}
 use Rattle.action.proofs.Canonical.{forward-reaches, least-length, back-below}
 use Rattle.parts.specs.Parts.{mixed}
 use Rattle.parts.specs.Labels.{chosen, spread, Divided}
 use Rattle.parts.specs.Numbered.{Numbering, readBy, Carried}
 use Rattle.parts.proofs.Independent.{mixed-length, mixed-inside, mixed-outside, reach-leaves}
 use Rattle.parts.proofs.Labelled.{chosen-all, chosen-none, spread-all, spread-zero, spread-below}
-use Rattle.parts.proofs.Stepwise.{before, own, owns, chosen-valid, done-leaves, next-index, part-back, next-word, none-least, none-back}
+use Rattle.parts.proofs.Stepwise.{before, own, owns, chosen-valid, done-leaves, next-index, read-same-letters, part-back, next-word, none-least, none-back}
 use Rattle.split.specs.Places.{Listed}
-use Rattle.parted.specs.Steps.{Placed, PartLeast, Stepped, Stands}
+use Rattle.elements.specs.HeldGroup.{generatorsIn}
+use Rattle.parted.specs.declared.prepared.Part.{Part}
+use Rattle.parted.specs.Steps.{siteOf, AtHand, Placed, PartLeast, Stepped, Stands}
 
 -- ---- the places that a table lists
 
@@ -39,6 +41,11 @@ module _ {n m value : ℕ} {entry site number : ℕ → ℕ} (l : Listed n m ent
     inside = l .inside;
     apart = λ a b h k e. sym (l .numbered a h) ∙ ap number e ∙ l .numbered b k;
   }
+
+-- a site that the part owns has its number
+pub listed-found : {n m p : ℕ} (owners : List ℕ) {site number : ℕ → ℕ} → Listed n m (λ q. getD owners q 0) (suc p) site number
+    → (q : ℕ) → q < n → owns owners p q ≡ true → (a : ℕ) × (a < m) × (site a ≡ q)
+listed-found {p = p} owners {number = number} l q h o = let e = eqb-true (getD owners q 0) (suc p) o in (number q, l .small q h e, l .listed q h e)
 
 -- ---- the letters of the part put into a word
 
@@ -94,27 +101,28 @@ module _ {n : ℕ} {gs : List Generator} (v : Valid n gs) (labels owners : List 
         ap (λ (x : Word). getD x q I) (so-far ∙ sym (forward-reaches done-valid w))
         ∙ reach-leaves (owns owners p) done done-valid (done-leaves v labels owners d p) (forward done w) w (s .long) q h o
 
-    found : (q : ℕ) → q < n → owns owners p q ≡ true → (a : ℕ) × (a < m) × (site a ≡ q)
-    found q h o = let e = eqb-true (getD owners q 0) (suc p) o in (number q, l .small q h e, l .listed q h e)
-
     abbrev x : Word
     x = lettersIn n row
 
     long : length x ≡ n
     long = ap length so-far ∙ least-length done-valid w ∙ s .long
 
+    -- the part reads the letters of the word
+    pub stands-read : readBy m site (lettersIn n row) ≡ readBy m site w
+    stands-read = read-same-letters v labels owners d p w (s .long) (listed-numbering l) (listed-found owners l) (l .rising) (owned owners l x x) hs u c x long same
+
     abbrev y : Word
     y = withPart owners l (least hs (readBy m site x)) x
 
     whole : y ≡ least (chosen (before (suc p)) labels gs) w
     whole =
-        next-word v labels owners d p w (s .long) (listed-numbering l) found (l .rising) (owned owners l (least hs (readBy m site x)) x) hs u c x long same
+        next-word v labels owners d p w (s .long) (listed-numbering l) (listed-found owners l) (l .rising) (owned owners l (least hs (readBy m site x)) x) hs u c x long same
         y (withPart-placed owners l (least hs (readBy m site x)) x .long) so-far
         (withPart-here owners l (least hs (readBy m site x)) x)
         (withPart-there owners l (least hs (readBy m site x)) x)
 
     back : indexBack hs (readBy m site x) ≡ indexBack (chosen (own p) labels gs) w
-    back = part-back v labels owners d p w (s .long) (listed-numbering l) found (l .rising) (owned owners l (least hs (readBy m site x)) x) hs u c x long same
+    back = part-back v labels owners d p w (s .long) (listed-numbering l) (listed-found owners l) (l .rising) (owned owners l (least hs (readBy m site x)) x) hs u c x long same
 
     pub stands-next : Stands n gs labels (suc p) w out o
     stands-next = record {
@@ -170,13 +178,13 @@ module _ {n : ℕ} {gs : List Generator} (v : Valid n gs) (labels : List ℕ) (e
 -- ---- a part without generators
 
 -- tests that tell the labels at hand alike choose the same
-chosen-alike : {A : Type 0} (t u : ℕ → Bool) (ls : List ℕ) (xs : List A) → ((l : ℕ) → Member l ls → t l ≡ u l) → chosen t ls xs ≡ chosen u ls xs
+pub chosen-alike : {A : Type 0} (t u : ℕ → Bool) (ls : List ℕ) (xs : List A) → ((l : ℕ) → Member l ls → t l ≡ u l) → chosen t ls xs ≡ chosen u ls xs
 unfolding chosen
 chosen-alike t u [] xs h = refl
 chosen-alike t u (l ∷ ls) [] h = refl
 chosen-alike t u (l ∷ ls) (x ∷ xs) h = ap₂ (λ (b : Bool) (r : List _). cond b (x ∷ r) r) (h l (inl refl)) (chosen-alike t u ls xs (λ k m. h k (inr m)))
 
-spread-alike : (t u : ℕ → Bool) (ls : List ℕ) (gs : List Generator) (i : ℕ) → ((l : ℕ) → Member l ls → t l ≡ u l) → spread t ls gs i ≡ spread u ls gs i
+pub spread-alike : (t u : ℕ → Bool) (ls : List ℕ) (gs : List Generator) (i : ℕ) → ((l : ℕ) → Member l ls → t l ≡ u l) → spread t ls gs i ≡ spread u ls gs i
 unfolding spread
 spread-alike t u [] gs i h = refl
 spread-alike t u (l ∷ ls) [] i h = refl
@@ -184,8 +192,9 @@ spread-alike t u (l ∷ ls) (g ∷ gs) i h =
     rw (h l (inl refl), spread-alike t u ls gs (i / g .order) (λ k m. h k (inr m)), spread-alike t u ls gs i (λ k m. h k (inr m)))
 
 module _ (labels : List ℕ) {n k p : ℕ} {member rank : ℕ → ℕ} (few : length labels ≡ n) (l : Listed n k (λ g. getD labels g 0) p member rank) (none : k ≡ 0) where
-  alike : (x : ℕ) → Member x labels → before p x ≡ before (suc p) x
-  alike x m = let (g, h, same) = of-member-at labels 0 x m in
+  -- no label tells the parts before it from those before the next
+  pub none-alike : (x : ℕ) → Member x labels → before p x ≡ before (suc p) x
+  none-alike x m = let (g, h, same) = of-member-at labels 0 x m in
       go (λ e. absurd (omega (arith, none, l .small g (omega arith) (sym same ∙ e)))) (decLt x p) (decLt p x)
     where
       go : (x ≡ p → before p x ≡ before (suc p) x) → Dec (x < p) → Dec (p < x) → before p x ≡ before (suc p) x
@@ -194,7 +203,7 @@ module _ (labels : List ℕ) {n k p : ℕ} {member rank : ℕ → ℕ} (few : le
       go own (no a) (no b) = own (omega arith)
 
   same-chosen : (gs : List Generator) → chosen (before p) labels gs ≡ chosen (before (suc p)) labels gs
-  same-chosen gs = chosen-alike (before p) (before (suc p)) labels gs alike
+  same-chosen gs = chosen-alike (before p) (before (suc p)) labels gs none-alike
 
   -- leaves every row where it stands
   pub stands-still : {sites : ℕ} {gs : List Generator} {w : Word} {row : List ℕ} {i : ℕ} → Stands sites gs labels p w row i → Stands sites gs labels (suc p) w row i
@@ -204,8 +213,24 @@ module _ (labels : List ℕ) {n k p : ℕ} {member rank : ℕ → ℕ} (few : le
     index =
         s .index
         ∙ ap (λ (hs : List Generator). spread (before p) labels gs (indexBack hs w)) (same-chosen gs)
-        ∙ spread-alike (before p) (before (suc p)) labels gs (indexBack (chosen (before (suc p)) labels gs) w) alike;
+        ∙ spread-alike (before p) (before (suc p)) labels gs (indexBack (chosen (before (suc p)) labels gs) w) none-alike;
   }
+
+-- ---- a part that is made ready
+
+module _ {n : ℕ} {gs : List Generator} (v : Valid n gs) (labels owners : List ℕ) (d : Divided n gs labels owners) (p : ℕ) (few : n ≤ maxSites) {k : ℕ} (e : length labels ≡ k)
+    {table targets orders strides rests masks place number : List ℕ} {r : Part} (h : AtHand k n gs labels owners p table targets orders strides rests masks place number r) where
+  -- with generators it makes of the least word by the parts before the one with the part, and without it leaves every row where it stands
+  pub part-stands : (w : Word) {row out : List ℕ} {i o : ℕ} → Stands n gs labels p w row i → (r .generators ≡ 0 → (out ≡ row) × (o ≡ i))
+      → (0 < r .generators → Stepped n (r .sites) (siteOf table) (generatorsIn (r .generators) (r .sites) targets orders) gs labels p row i out o) → Stands n gs labels (suc p) w out o
+  part-stands w {row} {out} {i} {o} s none some = go (decLt 0 (r .generators))
+    where
+      go : Dec (0 < r .generators) → Stands n gs labels (suc p) w out o
+      go (yes l) = stands-next v labels owners d p (h .owned) (h .tables .valid) (h .carried) few w s (some l)
+      go (no l) =
+          let z : r .generators ≡ 0 = omega arith in
+          let (a, b) = none z in
+          stands-still labels e (h .members) z (rw (a, b) s)
 
 -- ---- what a part's work on a row comes to
 

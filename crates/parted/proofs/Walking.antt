@@ -10,21 +10,21 @@ use Rattle.pauli_word.specs.Limits.{wordLength}
 use Rattle.row_lists.specs.Rows.{rowAt, withRow}
 use Rattle.row_lists.proofs.Rows.{part-written, withRow-length, withRow-same, withRow-other}
 
--- R stands between each of the first i rows with its index and what it was, and the others are as they were
-pub record Walked (R : List ℕ → ℕ → List ℕ → ℕ → Type 0) (rows₀ indices₀ rows indices : List ℕ) (i : ℕ) : Type 0 where
+-- R holds of each of the first i rows with its index, by the number of the row, and the others are as they were
+pub record Walked (R : ℕ → List ℕ → ℕ → Type 0) (rows₀ indices₀ rows indices : List ℕ) (i : ℕ) : Type 0 where
   pub long : length indices ≡ length indices₀
   pub wide : length rows ≡ length rows₀
-  pub done : (j : ℕ) → j < i → R (rowAt rows₀ j) (getD indices₀ j 0) (rowAt rows j) (getD indices j 0)
+  pub done : (j : ℕ) → j < i → R j (rowAt rows j) (getD indices j 0)
   pub row : (j : ℕ) → i ≤ j → rowAt rows j ≡ rowAt rows₀ j
   pub index : (j : ℕ) → i ≤ j → getD indices j 0 ≡ getD indices₀ j 0
 
 -- no row is passed
-pub walked-none : (R : List ℕ → ℕ → List ℕ → ℕ → Type 0) (rows indices : List ℕ) → Walked R rows indices rows indices 0
+pub walked-none : (R : ℕ → List ℕ → ℕ → Type 0) (rows indices : List ℕ) → Walked R rows indices rows indices 0
 walked-none R rows indices = record { long = refl; wide = refl; done = λ j h. absurd (omega arith); row = λ j h. refl; index = λ j h. refl }
 
 -- one row more
-module _ (R : List ℕ → ℕ → List ℕ → ℕ → Type 0) {rows₀ indices₀ rows indices : List ℕ} {i : ℕ} (w : Walked R rows₀ indices₀ rows indices i) (inside : i < length indices)
-    (room : wordLength * i + wordLength ≤ length rows) (bytes : List ℕ) (full : length bytes ≡ wordLength) (x : ℕ) (r : R (rowAt rows₀ i) (getD indices₀ i 0) bytes x) where
+module _ (R : ℕ → List ℕ → ℕ → Type 0) {rows₀ indices₀ rows indices : List ℕ} {i : ℕ} (w : Walked R rows₀ indices₀ rows indices i) (inside : i < length indices)
+    (room : wordLength * i + wordLength ≤ length rows) (bytes : List ℕ) (full : length bytes ≡ wordLength) (x : ℕ) (r : R i bytes x) where
   next : Walked R rows₀ indices₀ (withRow rows i bytes) (set indices i x) (i + 1)
   next = record {
     long = length-set indices i x ∙ w .long;
@@ -34,7 +34,7 @@ module _ (R : List ℕ → ℕ → List ℕ → ℕ → Type 0) {rows₀ indices
     index = λ j h. getD-set-other indices i j x 0 (λ e. omega arith) ∙ w .index j (omega arith);
   }
     where
-      done : (j : ℕ) → j < i + 1 → Dec (j ≡ i) → R (rowAt rows₀ j) (getD indices₀ j 0) (rowAt (withRow rows i bytes) j) (getD (set indices i x) j 0)
+      done : (j : ℕ) → j < i + 1 → Dec (j ≡ i) → R j (rowAt (withRow rows i bytes) j) (getD (set indices i x) j 0)
       done j h (yes e) = rw (e, withRow-same rows i room bytes full, getD-set-same indices i x 0 inside) r
       done j h (no n) = rw (withRow-other rows i room bytes full j n, getD-set-other indices i j x 0 n) (w .done j (omega arith))
 

@@ -1,4 +1,2 @@
--- Which way a part takes, and rows of words part by part.
+-- Rows of words part by part.
 pub mod Steps
-pub mod Through
-pub mod Ways

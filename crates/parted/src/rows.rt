@@ -14,16 +14,17 @@ ghost use Rattle.parts.specs.Labels.{Divided};
 ghost use Rattle.parts.specs.Numbered.{Numbering};
 ghost use Rattle.row_lists.specs.Rows.{rowAt};
 ghost use Rattle.parted.specs.Steps.{siteOf, Stepped, AllStand};
-ghost use Rattle.parted.specs.Ways.{Found, roomOf};
+ghost use Rattle.ways.specs.Ways.{Found, roomOf};
 use crate::part;
-use crate::way;
-use crate::way::Way;
+use crate::prepared;
+use crate::prepared::Part;
 use packed::PLANE_WORDS;
 use pauli_word::MAX_SITES;
 use pauli_word::WORD_BYTES;
 use permutation::MAX_GENERATORS;
 use permutation::TARGET_PLACES;
 use rotation::planes::MASK_WORDS;
+use ways::way::Way;
 
 // One part's work on every row.
 pub fn part_rows(
@@ -88,7 +89,7 @@ pub fn part_rows(
     }
 }
 
-// One part's work on every row, by the way that the part takes.
+// One part's work on every row, by the way that the part takes; a part without generators leaves every row.
 pub fn part_by_way(
     targets: &[u16],
     orders: &[u32],
@@ -96,44 +97,38 @@ pub fn part_by_way(
     sites: usize,
     labels: &[u16],
     part: usize,
+    ready: Part,
+    table: &[u16],
     own_targets: &[u16],
     own_orders: &[u32],
-    k: usize,
-    m: usize,
-    table: &[u16],
-    strides: &mut [usize],
-    rests: &mut [usize],
-    masks: &mut [u64],
-    site: &mut [u16],
-    place: &mut [u16],
+    strides: &[usize],
+    rests: &[usize],
+    masks: &[u64],
+    site: &[u16],
+    place: &[u16],
     representatives: &mut [u8],
     indices: &mut [usize],
 )
     requires { ⌜ Tables generators sites (now targets) (now orders) × (length (now labels) ≡ generators) ⌝ }
-    requires { ⌜ Tables k m (now «own_targets») (now «own_orders») ⌝ }
-    requires { ⌜ Numbering sites m (siteOf (now table)) × (m ≤ length (now table)) ⌝ }
-    requires { ⌜ (length (now strides) ≡ maxGenerators) × (length (now rests) ≡ maxGenerators) × (maxGenerators * planeWords ≤ length (now masks)) ⌝ }
-    requires { ⌜ (length (now site) ≡ maxSites) × (length (now place) ≡ maxSites) ⌝ }
+    requires { ⌜ Tables (ready .generators) (ready .sites) (now «own_targets») (now «own_orders») ⌝ }
+    requires { ⌜ Found (ready .way) (ready .generators) (ready .sites) (ready .order) (now «own_targets») (now «own_orders») (now strides) (now rests) (now masks) (now site) (now place) × (roomOf (ready .way) ≤ planeWords) ⌝ }
+    requires { ⌜ ready .order ≡ orderOf (generatorsIn (ready .generators) (ready .sites) (now «own_targets») (now «own_orders»)) ⌝ }
+    requires { ⌜ Numbering sites (ready .sites) (siteOf (now table)) × (ready .sites ≤ length (now table)) ⌝ }
     requires { ⌜ length (now representatives) ≡ wordLength * length (now indices) ⌝ }
     requires { ⌜ ((i : ℕ) → i < length (now indices) → AcceptedWord sites (rowAt (now representatives) i) × (getD (now indices) i 0 < orderOf (generatorsIn generators sites (now targets) (now orders)))) ⌝ }
-    ensures { λ _. ⌜ ((i : ℕ) → i < length (now (indices .entry))
-        → Stepped sites m (siteOf (now (table .entry))) (generatorsIn k m (now («own_targets» .entry)) (now («own_orders» .entry))) (generatorsIn generators sites (now (targets .entry)) (now (orders .entry))) (now (labels .entry)) part
+    ensures none { λ _. ⌜ (ready .generators ≡ 0 → (now (representatives .exit) ≡ now (representatives .entry)) × (now (indices .exit) ≡ now (indices .entry))) ⌝ }
+    ensures some { λ _. ⌜ (0 < ready .generators → (i : ℕ) → i < length (now (indices .entry))
+        → Stepped sites (ready .sites) (siteOf (now (table .entry))) (generatorsIn (ready .generators) (ready .sites) (now («own_targets» .entry)) (now («own_orders» .entry))) (generatorsIn generators sites (now (targets .entry)) (now (orders .entry))) (now (labels .entry)) part
         (rowAt (now (representatives .entry)) i) (getD (now (indices .entry)) i 0) (rowAt (now (representatives .exit)) i) (getD (now (indices .exit)) i 0)) ⌝ }
 {
-    let order = elements::index::order(own_targets, own_orders, k, m);
-    let found = way::find_way(
-        own_targets,
-        own_orders,
-        k,
-        m,
-        order,
-        strides,
-        rests,
-        masks,
-        site,
-        place,
-    );
-    let room = found.room();
+    let k = ready.generators;
+    if k == 0 {
+        return;
+    }
+    let m = ready.sites;
+    let order = ready.order;
+    let way = ready.way;
+    let room = way.room();
     let mut left = [0u64; PLANE_WORDS];
     part_rows(
         targets,
@@ -142,7 +137,7 @@ pub fn part_by_way(
         sites,
         labels,
         part,
-        found,
+        way,
         own_targets,
         own_orders,
         k,
@@ -160,60 +155,7 @@ pub fn part_by_way(
     );
 }
 
-// One part's work on every row, once its tables are filled; room for what its way needs.
-pub fn part_filled(
-    targets: &[u16],
-    orders: &[u32],
-    generators: usize,
-    sites: usize,
-    labels: &[u16],
-    part: usize,
-    own_targets: &[u16],
-    own_orders: &[u32],
-    k: usize,
-    m: usize,
-    table: &[u16],
-    representatives: &mut [u8],
-    indices: &mut [usize],
-)
-    requires { ⌜ Tables generators sites (now targets) (now orders) × (length (now labels) ≡ generators) ⌝ }
-    requires { ⌜ Tables k m (now «own_targets») (now «own_orders») ⌝ }
-    requires { ⌜ Numbering sites m (siteOf (now table)) × (m ≤ length (now table)) ⌝ }
-    requires { ⌜ length (now representatives) ≡ wordLength * length (now indices) ⌝ }
-    requires { ⌜ ((i : ℕ) → i < length (now indices) → AcceptedWord sites (rowAt (now representatives) i) × (getD (now indices) i 0 < orderOf (generatorsIn generators sites (now targets) (now orders)))) ⌝ }
-    ensures { λ _. ⌜ ((i : ℕ) → i < length (now (indices .entry))
-        → Stepped sites m (siteOf (now (table .entry))) (generatorsIn k m (now («own_targets» .entry)) (now («own_orders» .entry))) (generatorsIn generators sites (now (targets .entry)) (now (orders .entry))) (now (labels .entry)) part
-        (rowAt (now (representatives .entry)) i) (getD (now (indices .entry)) i 0) (rowAt (now (representatives .exit)) i) (getD (now (indices .exit)) i 0)) ⌝ }
-{
-    let mut strides = [0usize; MAX_GENERATORS];
-    let mut rests = [0usize; MAX_GENERATORS];
-    let mut masks = [0u64; MASK_WORDS];
-    let mut site = [0u16; MAX_SITES];
-    let mut place = [0u16; MAX_SITES];
-    part_by_way(
-        targets,
-        orders,
-        generators,
-        sites,
-        labels,
-        part,
-        own_targets,
-        own_orders,
-        k,
-        m,
-        table,
-        &mut strides,
-        &mut rests,
-        &mut masks,
-        &mut site,
-        &mut place,
-        representatives,
-        indices,
-    );
-}
-
-// One part's work on every row: its generators and its sites are listed, and its tables filled; `members`, `ranks`, `table`, `number`, `own_targets` and
-// `own_orders` are room for these. A part without generators leaves every row.
+// One part's work on every row, with room for what is made ready for it.
 pub fn part_in(
     targets: &[u16],
     orders: &[u32],
@@ -222,31 +164,29 @@ pub fn part_in(
     labels: &[u16],
     owners: &[u16],
     part: usize,
-    members: &mut [u16],
-    ranks: &mut [u16],
     table: &mut [u16],
-    number: &mut [u16],
     own_targets: &mut [u16],
     own_orders: &mut [u32],
+    strides: &mut [usize],
+    rests: &mut [usize],
+    masks: &mut [u64],
+    site: &mut [u16],
+    place: &mut [u16],
     representatives: &mut [u8],
     indices: &mut [usize],
 )
     requires { ⌜ Tables generators sites (now targets) (now orders) × (length (now labels) ≡ generators) × (length (now owners) ≡ maxSites) × (part < generators) ⌝ }
     requires { ⌜ Divided sites (generatorsIn generators sites (now targets) (now orders)) (now labels) (now owners) ⌝ }
-    requires { ⌜ (length (now members) ≡ maxGenerators) × (length (now ranks) ≡ maxGenerators) × (length (now table) ≡ maxSites) × (length (now number) ≡ maxSites) ⌝ }
-    requires { ⌜ (length (now «own_targets») ≡ targetPlaces) × (length (now «own_orders») ≡ maxGenerators) ⌝ }
+    requires { ⌜ (length (now table) ≡ maxSites) × (length (now «own_targets») ≡ targetPlaces) × (length (now «own_orders») ≡ maxGenerators) ⌝ }
+    requires { ⌜ (length (now strides) ≡ maxGenerators) × (length (now rests) ≡ maxGenerators) × (maxGenerators * planeWords ≤ length (now masks)) ⌝ }
+    requires { ⌜ (length (now site) ≡ maxSites) × (length (now place) ≡ maxSites) ⌝ }
     requires { ⌜ length (now representatives) ≡ wordLength * length (now indices) ⌝ }
     requires { ⌜ ((i : ℕ) → i < length (now indices) → AcceptedWord sites (rowAt (now representatives) i) × (getD (now indices) i 0 < orderOf (generatorsIn generators sites (now targets) (now orders)))) ⌝ }
     ensures { λ _. ⌜ ((words : ℕ → Word)
         → AllStand sites (generatorsIn generators sites (now (targets .entry)) (now (orders .entry))) (now (labels .entry)) part words (now (representatives .entry)) (now (indices .entry))
         → AllStand sites (generatorsIn generators sites (now (targets .entry)) (now (orders .entry))) (now (labels .entry)) (suc part) words (now (representatives .exit)) (now (indices .exit))) ⌝ }
 {
-    let k = split::places::list_places(labels, generators, part as u16, members, ranks);
-    if k == 0 {
-        return;
-    }
-    let m = split::places::list_places(owners, sites, (part + 1) as u16, table, number);
-    split::tables::fill_part(
+    let ready = prepared::prepare(
         targets,
         orders,
         generators,
@@ -254,27 +194,31 @@ pub fn part_in(
         labels,
         owners,
         part,
-        members,
-        ranks,
-        k,
         table,
-        number,
-        m,
         own_targets,
         own_orders,
+        strides,
+        rests,
+        masks,
+        site,
+        place,
     );
-    part_filled(
+    part_by_way(
         targets,
         orders,
         generators,
         sites,
         labels,
         part,
+        ready,
+        table,
         own_targets,
         own_orders,
-        k,
-        m,
-        table,
+        strides,
+        rests,
+        masks,
+        site,
+        place,
         representatives,
         indices,
     );
@@ -300,12 +244,14 @@ pub fn part_of_all(
         → AllStand sites (generatorsIn generators sites (now (targets .entry)) (now (orders .entry))) (now (labels .entry)) part words (now (representatives .entry)) (now (indices .entry))
         → AllStand sites (generatorsIn generators sites (now (targets .entry)) (now (orders .entry))) (now (labels .entry)) (suc part) words (now (representatives .exit)) (now (indices .exit))) ⌝ }
 {
-    let mut members = [0u16; MAX_GENERATORS];
-    let mut ranks = [0u16; MAX_GENERATORS];
     let mut table = [0u16; MAX_SITES];
-    let mut number = [0u16; MAX_SITES];
     let mut own_targets = [0u16; TARGET_PLACES];
     let mut own_orders = [0u32; MAX_GENERATORS];
+    let mut strides = [0usize; MAX_GENERATORS];
+    let mut rests = [0usize; MAX_GENERATORS];
+    let mut masks = [0u64; MASK_WORDS];
+    let mut site = [0u16; MAX_SITES];
+    let mut place = [0u16; MAX_SITES];
     part_in(
         targets,
         orders,
@@ -314,12 +260,14 @@ pub fn part_of_all(
         labels,
         owners,
         part,
-        &mut members,
-        &mut ranks,
         &mut table,
-        &mut number,
         &mut own_targets,
         &mut own_orders,
+        &mut strides,
+        &mut rests,
+        &mut masks,
+        &mut site,
+        &mut place,
         representatives,
         indices,
     );

@@ -13,11 +13,11 @@ use Rattle.action.specs.Permutation.{Generator}
 use Rattle.action.specs.Index.{digits}
 use Rattle.action.specs.Orbit.{indexBack}
 use Rattle.action.specs.Sector.{modulus, phases, numerator, keeps}
-use Rattle.momentum.specs.declared.inner.Placement.{Placement}
-use Rattle.momentum.specs.declared.inner.Placement.the-variants as Placement
-use Rattle.momentum.specs.Calls.{kept, dropped, Row, decision, rowWord}
-use Rattle.momentum.specs.Parts.{placementOf, indexIn}
-use Rattle.momentum.proofs.Placing.{keeps-word}
+use Rattle.decisions.specs.declared.placement.Placement.{Placement}
+use Rattle.decisions.specs.declared.placement.Placement.the-variants as Placement
+use Rattle.decisions.specs.Decisions.{kept, dropped, Row, decision, rowWord}
+use Rattle.decisions.specs.Placements.{placementOf, indexIn}
+use Rattle.decisions.proofs.Placing.{keeps-word}
 use Rattle.phases.specs.Rules.{turn}
 use Rattle.projection.specs.Projection.{entryAt, entryOf, turned, turnedRow}
 use Rattle.projection.proofs.Entries.{entry-below}

@@ -3,8 +3,8 @@
 //
 // The call here asks nothing of its caller: bad input is refused by number, and the lent lists are then as they were.
 mod checks;
+mod folds;
 pub mod lent;
-mod parts;
 mod rows;
 
 ghost use mathlib.Core.Path.{_≡_};

@@ -16,8 +16,8 @@ ghost use Rattle.phases.specs.Rules.{InRange};
 ghost use Rattle.projection.specs.Projection.{keptRows, projected};
 ghost use Rattle.project.specs.Calls.{maxCoefficient, inputRows};
 ghost use Rattle.project.specs.Rows.{PhaseLists, Sector, WholeRows, turnedAs, turnedRows, TurnedRows};
-use crate::parts;
-use momentum::inner::Placement;
+use crate::folds;
+use decisions::placement::Placement;
 use pauli_word::WORD_BYTES;
 use phases::PHASES;
 use phases::PhaseTable;
@@ -50,7 +50,7 @@ pub fn turn_row(
     ensures kept { λ r. ⌜ r .kept ≡ keeps (generatorsIn generators sites (now (targets .entry)) (now (orders .entry))) (now (modes .entry)) (lettersIn sites (now (word .entry))) ⌝ }
     ensures row { λ r. ⌜ turnedAs r (now (cosines .entry)) (now (sines .entry)) (generatorsIn generators sites (now (targets .entry)) (now (orders .entry))) (now (modes .entry)) (lettersIn sites (now (word .entry)), coefficient) ⌝ }
 {
-    let placed = momentum::inner::placement_of(targets, orders, generators, sites, word, modes);
+    let placed = sector_rows::word::placement_of(targets, orders, generators, sites, word, modes);
     let least = placed.word;
     let answer = placed.answer;
     let Placement::Kept(index, _) = answer else {
@@ -62,7 +62,7 @@ pub fn turn_row(
         };
     };
     let modulus = elements::index::phase_modulus(targets, orders, generators, sites);
-    let numerator = momentum::inner::numerator_at(targets, orders, generators, sites, modes, index);
+    let numerator = decisions::phase::numerator_at(targets, orders, generators, sites, modulus, modes, index);
     let entry = numerator * PHASES / modulus;
     Turned {
         kept: true,
@@ -192,6 +192,6 @@ pub fn project(
         &mut xs,
         &mut ys,
     );
-    parts::fold_parts(kept, &xs, &ys, representatives, cosines, sines);
+    folds::fold_parts(kept, &xs, &ys, representatives, cosines, sines);
     kept
 }

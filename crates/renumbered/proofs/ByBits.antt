@@ -63,12 +63,8 @@ module _ {n : ℕ} (gs : List Generator) (w : Word) (long : length w ≡ n) wher
     pub staged-alone : (k t : ℕ) → t ≤ n + n → Refined (Alone k) order (bitsOf n gs w) t S → Staged (Alone k) gs w S
     staged-alone k t h (l, one) = (among-alone k (left-among t h (rw whole at l)) one, one)
 
-    -- those that are left where refining stops are not greater than others
-    pub staged-tired : (t : ℕ) → t ≤ n + n → Refined Tired order (bitsOf n gs w) t S → Staged Tired gs w S
-    staged-tired t h (u, low, l) = left-among u (omega arith) (rw whole at l)
-
     -- those that are left when all bits are read give the least word, and no others do
     pub staged-end : (r : Stage) → Refined r order (bitsOf n gs w) (0 + n + n) S → Staged r gs w S
     staged-end (Alone k) l = staged-alone k (0 + n + n) (omega arith) l
     staged-end Through l = let e : 0 + n + n ≡ n + n = omega arith in left-leading (rw e at (rw whole at l))
-    staged-end Tired l = staged-tired (0 + n + n) (omega arith) l
+    staged-end Tired (u, low, l) = left-among u (omega arith) (rw whole at l)

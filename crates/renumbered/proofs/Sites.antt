@@ -9,8 +9,8 @@ use lib.Dec.{eqb}
 use Rattle.action.specs.Permutation.{Generator}
 use Rattle.grid.specs.Grid.{further}
 use Rattle.grid.specs.Candidates.{Left}
-use Rattle.grid.specs.Stages.{patience, Refined}
-use Rattle.grid.specs.declared.refine.Stage.the-variants.{Alone, Through, Tired}
+use Rattle.grid.specs.Stages.{Refined}
+use Rattle.grid.specs.declared.refine.Stage.the-variants.{Alone, Through}
 use Rattle.grid.proofs.Refining.{left-alone}
 use Rattle.grid.proofs.Rounds.{Rounds}
 use Rattle.renumbered.specs.Renumbered.{at}
@@ -20,17 +20,16 @@ abbrev pub Shows : List Generator → ℕ → ℕ → (ℕ → Bool) → List �
 Shows gs n order b place F t = (q k : ℕ) → q < n → k < order → F k (t + q) ≡ b (further gs k (at place q))
 
 -- the first q sites are read
-pub record Read (gs : List Generator) (n order : ℕ) (b : ℕ → Bool) (place : List ℕ) (left₀ left : ℕ → Bool) (q stale : ℕ) : Type 0 where
+pub record Read (gs : List Generator) (n order : ℕ) (b : ℕ → Bool) (place : List ℕ) (left₀ left : ℕ → Bool) (q : ℕ) : Type 0 where
   pub inside : q ≤ n
-  pub few : stale ≤ patience
   pub left' : (F : ℕ → ℕ → Bool) (t : ℕ) → Left order F t left₀ → Shows gs n order b place F t → Left order F (t + q) left
 
 -- none at first
-pub read-start : (gs : List Generator) (n order : ℕ) (b : ℕ → Bool) (place : List ℕ) (left₀ : ℕ → Bool) → Read gs n order b place left₀ left₀ 0 0
-read-start gs n order b place left₀ = record { inside = omega arith; few = omega arith; left' = λ F t l s. rw add-zero l }
+pub read-start : (gs : List Generator) (n order : ℕ) (b : ℕ → Bool) (place : List ℕ) (left₀ : ℕ → Bool) → Read gs n order b place left₀ left₀ 0
+read-start gs n order b place left₀ = record { inside = omega arith; left' = λ F t l s. rw add-zero l }
 
-module _ {gs : List Generator} {n order : ℕ} {b : ℕ → Bool} {place : List ℕ} {left₀ left : ℕ → Bool} {q stale : ℕ}
-    (r : Read gs n order b place left₀ left q stale) (more : q < n) (bits : ℕ → Bool) (has : (k : ℕ) → k < order → bits k ≡ b (further gs k (at place q)))
+module _ {gs : List Generator} {n order : ℕ} {b : ℕ → Bool} {place : List ℕ} {left₀ left : ℕ → Bool} {q : ℕ}
+    (r : Read gs n order b place left₀ left q) (more : q < n) (bits : ℕ → Bool) (has : (k : ℕ) → k < order → bits k ≡ b (further gs k (at place q)))
     (left′ : ℕ → Bool) (round : Rounds bits left left′) where
   -- a round reads the next site
   read-round : (F : ℕ → ℕ → Bool) (t : ℕ) → Left order F t left₀ → Shows gs n order b place F t → Left order F (suc (t + q)) left′
@@ -41,20 +40,15 @@ module _ {gs : List Generator} {n order : ℕ} {b : ℕ → Bool} {place : List 
       → Refined (Alone k) order F (t + n) left′
   read-alone k one F t l s = (left-alone (read-round F t l s) (omega arith) k one, one)
 
-  -- refining may stop there
-  pub read-tired : (F : ℕ → ℕ → Bool) (t : ℕ) → Left order F t left₀ → Shows gs n order b place F t → Refined Tired order F (t + n) left′
-  read-tired F t l s = (suc (t + q), omega arith, read-round F t l s)
-
-  -- or go on to the next site
-  pub read-next : {stale′ : ℕ} → stale′ ≤ patience → Read gs n order b place left₀ left′ (q + 1) stale′
-  read-next few = record {
+  -- or refining goes on to the next site
+  pub read-next : Read gs n order b place left₀ left′ (q + 1)
+  read-next = record {
     inside = omega arith;
-    few = few;
     left' = λ F t l s. let e : suc (t + q) ≡ t + (q + 1) = omega arith in rw e at (read-round F t l s);
   }
 
 -- after the last site the plane is read
-pub read-end : {gs : List Generator} {n order : ℕ} {b : ℕ → Bool} {place : List ℕ} {left₀ left : ℕ → Bool} {q stale : ℕ}
-    → Read gs n order b place left₀ left q stale → n ≤ q
+pub read-end : {gs : List Generator} {n order : ℕ} {b : ℕ → Bool} {place : List ℕ} {left₀ left : ℕ → Bool} {q : ℕ}
+    → Read gs n order b place left₀ left q → n ≤ q
     → (F : ℕ → ℕ → Bool) (t : ℕ) → Left order F t left₀ → Shows gs n order b place F t → Refined Through order F (t + n) left
 read-end {n = n} {q = q} r over F t l s = let e : q ≡ n = omega (arith, r .inside) in rw e at (r .left' F t l s)

@@ -1,7 +1,7 @@
 // Refinement in the order of the sites: at each site the candidates' bits are those of the block that its number is in, moved by its place there. Planes here
 // are read through the table, so that bit a is that of the site with number a.
 ghost use mathlib.Core.Path.{_≡_};
-ghost use mathlib.Core.Bool.{Bool};
+ghost use mathlib.Core.Bool.{Bool, false};
 ghost use Prim.Native.Nat.{ℕ, _+_, _*_, _≤_, _<_};
 ghost use lib.ListN.{length};
 ghost use Rattle.pauli_word.specs.Limits.{maxSites};
@@ -10,10 +10,9 @@ ghost use Rattle.elements.specs.HeldGroup.{generatorsIn, Tables};
 ghost use Rattle.packed.specs.Packed.{wordBits, planeWords, bitOf, Clear, lettersBy};
 ghost use Rattle.grid.specs.Grid.{further, Axes};
 ghost use Rattle.grid.specs.Candidates.{Left};
-ghost use Rattle.grid.specs.Stages.{Refined, Staged};
+ghost use Rattle.grid.specs.Stages.{isTired, Refined, Staged};
 ghost use Rattle.renumbered.specs.Renumbered.{at, Renumbered};
 use grid::candidates::Round;
-use grid::refine::PATIENCE;
 use grid::refine::Stage;
 use packed::PLANE_WORDS;
 
@@ -53,7 +52,7 @@ pub fn bits_at(
     );
 }
 
-// Refines by a plane, site after site; `bits` is room for the candidates' bits.
+// Refines by a plane, site after site to its end; `bits` is room for the candidates' bits.
 pub fn refine_plane(
     targets: &[u16],
     orders: &[u32],
@@ -72,11 +71,11 @@ pub fn refine_plane(
     requires { ⌜ Axes generators (now orders) (now strides) (now rests) ⌝ }
     requires { ⌜ (length (now place) ≡ maxSites) × ((q : ℕ) → q < sites → at (now place) q < sites) ⌝ }
     requires { ⌜ (order ≤ wordBits * length (now bits)) × (length (now left) ≡ length (now bits)) × (length (now bits) ≤ planeWords) ⌝ }
-    ensures { λ r. ⌜ ((F : ℕ → ℕ → Bool) (t : ℕ) → Left order F t (bitOf (now (left .entry)))
+    ensures ends { λ r. ⌜ isTired r ≡ false ⌝ }
+    ensures left { λ r. ⌜ ((F : ℕ → ℕ → Bool) (t : ℕ) → Left order F t (bitOf (now (left .entry)))
         → ((q k : ℕ) → q < sites → k < order → F k (t + q) ≡ bitOf (now (plane .entry)) (further (generatorsIn generators sites (now (targets .entry)) (now (orders .entry))) k (at (now (place .entry)) q)))
         → Refined r order F (t + sites) (bitOf (now (left .exit)))) ⌝ }
 {
-    let mut stale: usize = 0;
     let mut q = 0;
     while q < sites {
         bits_at(
@@ -94,10 +93,6 @@ pub fn refine_plane(
         let told = grid::candidates::strike_round(bits, left);
         if let Round::Alone(k) = told {
             return Stage::Alone(k);
-        }
-        stale = grid::refine::waited(told, stale);
-        if PATIENCE < stale {
-            return Stage::Tired;
         }
         q += 1;
     }
@@ -126,7 +121,8 @@ pub fn refine_planes(
     requires { ⌜ Renumbered sites (generatorsIn generators sites (now targets) (now orders)) (now site) (now place) ⌝ }
     requires { ⌜ (order ≤ wordBits * length (now bits)) × (length (now left) ≡ length (now bits)) × (length (now bits) ≤ planeWords) ⌝ }
     requires { ⌜ ((F : ℕ → ℕ → Bool) → Left order F 0 (bitOf (now left))) ⌝ }
-    ensures { λ r. ⌜ ((f g : ℕ → Bool) → ((a : ℕ) → a < sites → bitOf (now (x .entry)) a ≡ f (at (now (site .entry)) a)) → ((a : ℕ) → a < sites → bitOf (now (z .entry)) a ≡ g (at (now (site .entry)) a))
+    ensures ends { λ r. ⌜ isTired r ≡ false ⌝ }
+    ensures left { λ r. ⌜ ((f g : ℕ → Bool) → ((a : ℕ) → a < sites → bitOf (now (x .entry)) a ≡ f (at (now (site .entry)) a)) → ((a : ℕ) → a < sites → bitOf (now (z .entry)) a ≡ g (at (now (site .entry)) a))
         → Staged r (generatorsIn generators sites (now (targets .entry)) (now (orders .entry))) (lettersBy sites f g) (bitOf (now (left .exit)))) ⌝ }
 {
     let stage = refine_plane(
@@ -161,7 +157,7 @@ pub fn refine_planes(
     }
 }
 
-// The candidates that are left of all where refining stops, of a word whose planes are read through the table.
+// The candidates that are left of all, of a word whose planes are read through the table.
 pub fn refine(
     targets: &[u16],
     orders: &[u32],
@@ -181,7 +177,8 @@ pub fn refine(
     requires { ⌜ Axes generators (now orders) (now strides) (now rests) ⌝ }
     requires { ⌜ Renumbered sites (generatorsIn generators sites (now targets) (now orders)) (now site) (now place) ⌝ }
     requires { ⌜ (order ≤ wordBits * length (now left)) × (length (now left) ≤ planeWords) ⌝ }
-    ensures { λ r. ⌜ ((f g : ℕ → Bool) → ((a : ℕ) → a < sites → bitOf (now (x .entry)) a ≡ f (at (now (site .entry)) a)) → ((a : ℕ) → a < sites → bitOf (now (z .entry)) a ≡ g (at (now (site .entry)) a))
+    ensures ends { λ r. ⌜ isTired r ≡ false ⌝ }
+    ensures left { λ r. ⌜ ((f g : ℕ → Bool) → ((a : ℕ) → a < sites → bitOf (now (x .entry)) a ≡ f (at (now (site .entry)) a)) → ((a : ℕ) → a < sites → bitOf (now (z .entry)) a ≡ g (at (now (site .entry)) a))
         → Staged r (generatorsIn generators sites (now (targets .entry)) (now (orders .entry))) (lettersBy sites f g) (bitOf (now (left .exit)))) ⌝ }
 {
     packed::shift::fill_run(0, order, left);

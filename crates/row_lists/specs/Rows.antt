@@ -33,6 +33,10 @@ rowsInFull k words = inFullBy (rowSize (length words) k) k words
 
 -- ---- words in full
 
+-- the bytes where there is no word
+abbrev pub noWord : List ℕ
+noWord = replicate wordLength 0
+
 -- the bytes of row i
 unfoldable pub rowAt : List ℕ → ℕ → List ℕ
 rowAt words i = take wordLength (drop (wordLength * i) words)

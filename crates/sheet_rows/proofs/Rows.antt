@@ -35,8 +35,8 @@ use Rattle.action.specs.Orbit.{least, indexBack, orbitSize, fixing}
 use Rattle.action.specs.Sector.{keeps, droppedBy}
 use Rattle.action.proofs.Canonical.{least-length, back-below}
 use Rattle.permutation.specs.Limits.{maxOrder}
-use Rattle.momentum.specs.declared.inner.Placement.{Placement}
-use Rattle.momentum.specs.declared.inner.Placement.the-variants as Placement
+use Rattle.decisions.specs.declared.placement.Placement.{Placement}
+use Rattle.decisions.specs.declared.placement.Placement.the-variants as Placement
 use Rattle.text.specs.Text.{lineEnd, space, isMode, signedOf, decimal, put, maxWritten}
 use Rattle.text.specs.Parts.{fourFields, fieldLength, fieldsRead}
 use Rattle.text.specs.declared.read.Fields.{Fields}
@@ -47,10 +47,10 @@ use Rattle.text.proofs.Pieces.{part, FourParts, four-parts, parts-read}
 use Rattle.sheet_rows.specs.Rows.{refusedName, oneText, missing, joined, row, lineRow, numberRoom, numbersRoom, spread, refusalLine, rest}
 use Rattle.sheet_lines.specs.Lines.{zeroText, fields, field, firstPass, letterChecks, valueChecks, ruleAt}
 use Rattle.sheet_lines.specs.Parts.{modeOrZero}
-use Rattle.momentum.specs.Calls.{Row, decision, kept, dropped, rowWord}
-use Rattle.momentum.specs.Parts.{placementOf}
-use Rattle.momentum.proofs.Placing.{decision-drops}
-use Rattle.momentum.proofs.Traversals.{placed-dropped}
+use Rattle.decisions.specs.Decisions.{Row, decision, kept, dropped, rowWord}
+use Rattle.decisions.specs.Placements.{placementOf}
+use Rattle.decisions.proofs.Placing.{decision-drops}
+use Rattle.decisions.proofs.Traversals.{placed-dropped}
 
 -- ---- texts one after the other
 

@@ -25,7 +25,7 @@ use Rattle.sheet_rows.specs.Rows.{oneText, missing, joined, row, lineRow
 use Rattle.pauli_word.proofs.Sites.{weight-small}
 use Rattle.sheet_rows.proofs.Rows.{checked}
 use Rattle.text.proofs.Decimals.{written-short}
-use Rattle.momentum.specs.Calls.{Row, decision, kept, dropped}
+use Rattle.decisions.specs.Decisions.{Row, decision, kept, dropped}
 use Rattle.pauli_word.specs.Limits.{maxSites}
 
 -- six fields in a line

@@ -6,7 +6,7 @@ use lib.ListN.{take, drop}
 use Rattle.pauli_word.specs.Word.{Word, weight}
 use Rattle.pauli_word.specs.Text.{readText, spell}
 use Rattle.action.specs.Permutation.{Generator}
-use Rattle.momentum.specs.Calls.{Decision, kept, dropped, Row, decision}
+use Rattle.decisions.specs.Decisions.{Decision, kept, dropped, Row, decision}
 use Rattle.text.specs.Text.{lineEnd, space, signedOf, decimal, maxDigits}
 use Rattle.sheet_lines.specs.Lines.{zeroText, fields, field}
 

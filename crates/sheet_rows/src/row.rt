@@ -11,7 +11,7 @@ ghost use Rattle.elements.specs.HeldGroup.{generatorsIn, Tables};
 ghost use Rattle.text.specs.Text.{space, decimal, maxWritten, put};
 ghost use Rattle.sheet_lines.specs.Lines.{zeroText, valueChecks};
 ghost use Rattle.sheet_rows.specs.Rows.{missing, oneText, rest, refusalLine, row as rowOf, lineRow, numberRoom, numbersRoom, spread};
-use momentum::inner::Placement;
+use decisions::placement::Placement;
 use outcome::Number;
 use outcome::Refusal;
 use pauli_word::WORD_BYTES;
@@ -86,7 +86,7 @@ fn word_row(
     };
     let end = text::write::append(list, at, word);
     let generators = modes.len();
-    let place = momentum::inner::placement_of(targets, orders, generators, sites, &read, modes);
+    let place = sector_rows::word::placement_of(targets, orders, generators, sites, &read, modes);
     let answer = place.answer;
     let Placement::Kept(index, size) = answer else {
         return dropped_row(list, end, answer.index(), weight);

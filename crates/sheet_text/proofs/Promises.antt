@@ -23,7 +23,7 @@ use Rattle.sheet_lines.specs.Lines.{zeroText, modesOf, lineShape, field, lineCh
 use Rattle.sheet_text.specs.Sheet.{tableNames, sheetSize, maxTable, rows, lineGenerators, table, sheetOutcome, printed, sheet}
 use Rattle.sheet_text.proofs.Fits as Fits
 use Rattle.sheet_text.specs.Text.{noEnd, OneLine, front, valueLines, together}
-use Rattle.momentum.specs.Calls.{decision, Decision, kept, dropped, Row}
+use Rattle.decisions.specs.Decisions.{decision, Decision, kept, dropped, Row}
 
 -- ---- lines
 

@@ -7,7 +7,7 @@ use Rattle.pauli_word.specs.Word.{weight}
 use Rattle.pauli_word.specs.Text.{lettersAlone}
 use Rattle.action.specs.Arithmetic.{product}
 use Rattle.action.specs.Lists.{sameNumbers, every}
-use Rattle.momentum.specs.Calls.{decision}
+use Rattle.decisions.specs.Decisions.{decision}
 use Rattle.action.specs.Lattice.{chain}
 use Rattle.action.specs.Orbit.{least, indexBack, orbitSize}
 use Rattle.action.specs.Sector.{keeps, droppedBy}

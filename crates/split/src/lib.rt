@@ -3,5 +3,6 @@
 pub mod divide;
 pub mod index;
 pub mod letters;
+pub mod modes;
 pub mod places;
 pub mod tables;

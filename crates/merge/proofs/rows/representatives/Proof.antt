@@ -1,77 +1,121 @@
--- `rows::representatives` meets its contract: the path of the group is found once, and taken for each row.
+-- `rows::representatives` meets its contract: there is room for an index a row, and the words that the rows are answered are its list.
 use borrow.Author.Needs.{needs}
-use mathlib.Core.Path.{_≡_, refl, _∙_}
+use Prim.Native.Nat.{ℕ, _-_, _*_, _≤_}
+use mathlib.Core.Path.{_≡_, sym, ap, subst, _∙_}
+use mathlib.Core.List.{List}
 use native.Mathlib.Omega.{arith}
-use Rattle.rotation.proofs.Packs.{fresh-length}
+use denote.Ref.{now}
+use lib.ListN.{length, take, replicate, length-replicate}
+use lib.Seq.{length-take-le}
+use Rattle.pauli_word.specs.Limits.{wordLength}
+use Rattle.action.specs.Permutation.{Generator}
+use Rattle.elements.specs.HeldGroup.{encodeAll, generatorsIn}
+use Rattle.row_lists.specs.Rows.{maxRows, inFullBy}
+use Rattle.row_lists.specs.Checks.{AcceptedRows}
+use Rattle.least_words.specs.Rows.{answeredRows, wordsOf}
+use Rattle.least_words.proofs.Answers.{answered-words}
+use Rattle.merge.specs.Calls.{leastRows}
 use Rattle.merge.proofs.rows.representatives.Statement.{statement}
 use Rattle.merge.proofs.rows.representatives.Tie as tie
 
-order-requires : tie.Need-order-requires
-order-requires c κs = search needs
+-- FEW_ROWS of the source
+abbrev fewRows : ℕ
+fewRows = 256
 
-slice-aggregate-find-path : tie.Need-slice-aggregate-find-path
-slice-aggregate-find-path c = search needs
+-- the first k of n places for indices
+indices-length : (n k : ℕ) → k ≤ n → length (take (k - 0) (replicate {A = ℕ} n 0)) ≡ k
+indices-length n k few = length-take-le (k - 0) (replicate n 0) (omega (arith, length-replicate {A = ℕ} n 0)) ∙ omega arith
 
-slice-aggregate-find-path-2 : tie.Need-slice-aggregate-find-path-2
-slice-aggregate-find-path-2 c = search needs
+-- the words that so many rows are answered
+kept-words : (gs : List Generator) (sites size : ℕ) (words : List ℕ) {j k : ℕ} → j ≡ k
+    → wordsOf (answeredRows gs sites (inFullBy size j words) j) ≡ encodeAll (leastRows gs sites (inFullBy size k words) k)
+unfolding leastRows
+kept-words gs sites size words {j} {k} same =
+    ap (λ (i : ℕ). wordsOf (answeredRows gs sites (inFullBy size i words) i)) same ∙ sym (answered-words gs sites (inFullBy size k words) k)
 
-slice-aggregate-find-path-3 : tie.Need-slice-aggregate-find-path-3
-slice-aggregate-find-path-3 c = search needs
+sub-least-rows : tie.Need-sub-least-rows
+sub-least-rows c = search needs
 
-find-path-requires : tie.Need-find-path-requires
-find-path-requires c κs = (c .before .before .before .before .before .before .before .before .pre .0, (c .before .before .before .order .ensures, (refl, refl, omega arith)))
+part-few-start : tie.Need-part-few-start
+part-few-start c = search needs
 
-words-requires : tie.Need-words-requires
-words-requires c κs = search needs
+part-few-end : tie.Need-part-few-end
+part-few-end c = search needs
 
-slice-aggregate-representatives-by : tie.Need-slice-aggregate-representatives-by
-slice-aggregate-representatives-by c = search needs
-
-slice-aggregate-representatives-by-2 : tie.Need-slice-aggregate-representatives-by-2
-slice-aggregate-representatives-by-2 c = search needs
-
-slice-aggregate-representatives-by-3 : tie.Need-slice-aggregate-representatives-by-3
-slice-aggregate-representatives-by-3 c = search needs
-
-sub-representatives-by : tie.Need-sub-representatives-by
-sub-representatives-by c = search needs
-
-part-left-start : tie.Need-part-left-start
-part-left-start c = search needs
-
-part-left-end : tie.Need-part-left-end
-part-left-end c = search needs
-
-representatives-by-requires : tie.Need-representatives-by-requires
-representatives-by-requires c κs =
-    let s = c .before .before .before .before .before .before .before .before .before .before .before .before .before .before .before .before .before .before in
-    let f = c .before .before .before .before .before .before .before .before .before .find-path .ensures in
-    let w = c .before .before .before .before .before .words in
-    let long = fresh-length (w .result) (omega (arith, w .ensures, f .0)) ∙ w .ensures in
-    (s .pre .0, (f .1, (c .before .before .before .before .before .before .before .before .before .before .before .before .before .order .ensures, (long, s .pre .1))))
+least-rows-requires : tie.Need-least-rows-requires
+least-rows-requires c κs =
+    let s = c .before .before .before .before .before .before .before in
+    let a = s .args in
+    let (tables, ((either, long), (rows, room))) = s .pre in
+    let same = sym (indices-length fewRows (a .rows) (omega (arith, c .before .before .if1 .taken))) in (
+      tables,
+      (
+        (either, long ∙ ap (λ (k : ℕ). a .size * k) same),
+        (
+          subst (λ (k : ℕ). AcceptedRows (a .sites) (inFullBy (a .size) k (now (a .words))) k) same rows,
+          room ∙ ap (λ (k : ℕ). wordLength * k) same,
+        ),
+      ),
+    )
 
 same-length : tie.Need-same-length
 same-length c = search needs
 
 returns : tie.Need-returns
-returns c = search needs
+returns c =
+    let s = c .before .before .before .before .before .before .before .before .before .before .before in
+    let a = s .args in
+    c .before .before .before .least-rows .ensures .0
+    ∙ kept-words (generatorsIn (a .generators) (a .sites) (now (a .targets)) (now (a .orders))) (a .sites) (a .size) (now (a .words)) (indices-length fewRows (a .rows) (omega (arith, c .before .before .before .before .before .before .if1 .taken)))
+
+sub-least-rows-2 : tie.Need-sub-least-rows-2
+sub-least-rows-2 c = search needs
+
+part-indices-start : tie.Need-part-indices-start
+part-indices-start c = search needs
+
+part-indices-end : tie.Need-part-indices-end
+part-indices-end c = search needs
+
+least-rows-requires-2 : tie.Need-least-rows-requires-2
+least-rows-requires-2 c κs =
+    let s = c .before .before .before .before .before .before .before in
+    let a = s .args in
+    let (tables, ((either, long), (rows, room))) = s .pre in
+    let same = sym (indices-length maxRows (a .rows) (rows .few)) in (
+      tables,
+      (
+        (either, long ∙ ap (λ (k : ℕ). a .size * k) same),
+        (
+          subst (λ (k : ℕ). AcceptedRows (a .sites) (inFullBy (a .size) k (now (a .words))) k) same rows,
+          room ∙ ap (λ (k : ℕ). wordLength * k) same,
+        ),
+      ),
+    )
+
+same-length-2 : tie.Need-same-length-2
+same-length-2 c = search needs
+
+returns-2 : tie.Need-returns-2
+returns-2 c =
+    let s = c .before .before .before .before .before .before .before .before .before .before .before in
+    let a = s .args in
+    c .before .before .before .least-rows2 .ensures .0
+    ∙ kept-words (generatorsIn (a .generators) (a .sites) (now (a .targets)) (now (a .orders))) (a .sites) (a .size) (now (a .words)) (indices-length maxRows (a .rows) (s .pre .1 .1 .0 .few))
 
 pub representatives-spec : {M : Type 1} → statement M
 representatives-spec =
     tie.close
     (tie.spec
-    order-requires
-    slice-aggregate-find-path
-    slice-aggregate-find-path-2
-    slice-aggregate-find-path-3
-    find-path-requires
-    words-requires
-    slice-aggregate-representatives-by
-    slice-aggregate-representatives-by-2
-    slice-aggregate-representatives-by-3
-    sub-representatives-by
-    part-left-start
-    part-left-end
-    representatives-by-requires
+    sub-least-rows
+    part-few-start
+    part-few-end
+    least-rows-requires
     same-length
-    returns)
+    returns
+    sub-least-rows-2
+    part-indices-start
+    part-indices-end
+    least-rows-requires-2
+    same-length-2
+    returns-2)

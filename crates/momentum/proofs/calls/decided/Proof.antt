@@ -15,12 +15,13 @@ use Rattle.group.specs.declared.Group.{Group}
 use Rattle.group.specs.Value.{groupIn, generatorsOf}
 use Rattle.group.proofs.Accepted.{accepted-tables}
 use Rattle.group.proofs.Outcomes.{overwritten}
-use Rattle.orbit.specs.Calls.{noWord}
+use Rattle.row_lists.specs.Rows.{noWord}
 use Rattle.orbit.proofs.WordCalls.{call-group}
-use Rattle.momentum.specs.Calls.{outcomeOfSector, sizeOf, rowWord, rowCounter, decision, kept, dropped, sectorOutcome}
-use Rattle.momentum.specs.Parts.{indexIn}
+use Rattle.momentum.specs.Calls.{outcomeOfSector, sizeOf, rowCounter, sectorOutcome}
+use Rattle.decisions.specs.Decisions.{rowWord, decision, kept, dropped}
+use Rattle.decisions.specs.Placements.{indexIn}
 use Rattle.momentum.proofs.Outcomes.{sector-decision}
-use Rattle.momentum.proofs.Traversals.{placed-dropped, placed-row}
+use Rattle.decisions.proofs.Traversals.{placed-dropped, placed-row}
 use borrow.Author.Needs.{needs}
 use Rattle.momentum.proofs.calls.decided.Statement.{statement}
 use Rattle.momentum.proofs.calls.decided.Tie as tie

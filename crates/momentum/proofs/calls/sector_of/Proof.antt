@@ -1,12 +1,13 @@
 -- `calls::sector_of` meets its contract: the lists' lengths decide (`sector-modes`, `sector-length`), and then `decided` answers.
-use mathlib.Core.Path.{_≡_, sym, ap, _∙_}
+use mathlib.Core.Path.{sym, ap, _∙_}
 use lib.ListN.{length}
 use denote.Ref.{now}
 use Rattle.group.specs.declared.Group.{Group}
 use Rattle.group.specs.Value.{groupIn, generatorsOf}
 use Rattle.outcome.specs.Outcome.{onAnswer, orElse}
-use Rattle.orbit.specs.Calls.{noWord}
-use Rattle.momentum.specs.Calls.{outcomeOfSector, sizeOf, rowWord, rowCounter}
+use Rattle.row_lists.specs.Rows.{noWord}
+use Rattle.momentum.specs.Calls.{outcomeOfSector, sizeOf, rowCounter}
+use Rattle.decisions.specs.Decisions.{rowWord}
 use Rattle.momentum.proofs.Outcomes.{sector-modes, sector-length}
 use borrow.Author.Needs.{needs}
 use Rattle.momentum.proofs.calls.sector_of.Statement.{statement}

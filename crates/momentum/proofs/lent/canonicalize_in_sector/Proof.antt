@@ -10,9 +10,11 @@ use Rattle.pauli_word.specs.Bytes.{inFull}
 use Rattle.pauli_word.proofs.Planes.{bytes-of}
 use Rattle.group.specs.declared.Group.{Group}
 use Rattle.group.specs.Value.{groupIn, generatorsOf}
-use Rattle.orbit.specs.Calls.{wordCallChecks, noWord}
+use Rattle.orbit.specs.Calls.{wordCallChecks}
+use Rattle.row_lists.specs.Rows.{noWord}
 use Rattle.orbit.proofs.WordCalls.{call-sites, call-long, call-fits, full-passes, full-word}
-use Rattle.momentum.specs.Calls.{outcomeOfSector, sizeOf, rowWord, rowCounter, sectorOutcome}
+use Rattle.momentum.specs.Calls.{outcomeOfSector, sizeOf, rowCounter, sectorOutcome}
+use Rattle.decisions.specs.Decisions.{rowWord}
 use Rattle.momentum.proofs.Outcomes.{sector-refused, sector-full}
 use borrow.Author.Needs.{needs}
 use Rattle.momentum.proofs.lent.canonicalize_in_sector.Statement.{statement}

@@ -1,16 +1,14 @@
 -- `lent::character_numerator` meets its contract: the checks pass or refuse, and a group that passes is what `calls::numerator_of` asks.
-use mathlib.Core.Path.{_≡_, sym, ap, _∙_}
+use mathlib.Core.Path.{sym}
 use mathlib.Core.List.{[], _∷_}
-use lib.ListN.{length}
 use denote.Ref.{now}
-use Rattle.outcome.specs.Outcome.{answer, onAnswer, orElse, done, itself}
+use Rattle.outcome.specs.Outcome.{answer}
 use Rattle.outcome.proofs.Outcomes.{told-passes, told-refused-first}
-use Rattle.action.specs.Index.{orderOf}
 use Rattle.action.specs.Sector.{numerator}
 use Rattle.group.specs.declared.Group.{Group}
 use Rattle.group.specs.Value.{groupIn, generatorsOf}
-use Rattle.group.specs.Calls.{valueChecks, listLength}
-use Rattle.momentum.specs.Calls.{modeCount, counterLength, numeratorOutcome, tableOutcome, numerators}
+use Rattle.group.specs.Calls.{valueChecks}
+use Rattle.momentum.specs.Calls.{modeCount, counterLength, numeratorOutcome}
 use borrow.Author.Needs.{needs}
 use Rattle.momentum.proofs.lent.character_numerator.Statement.{statement}
 use Rattle.momentum.proofs.lent.character_numerator.Tie as tie

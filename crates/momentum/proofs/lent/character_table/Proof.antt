@@ -1,16 +1,16 @@
 -- `lent::character_table` meets its contract: the checks pass or refuse, and a group that passes is what `calls::table_of` asks.
-use mathlib.Core.Path.{_≡_, sym, ap, _∙_}
+use mathlib.Core.Path.{sym, ap}
 use mathlib.Core.List.{[], _∷_}
 use lib.ListN.{length}
 use denote.Ref.{now}
 use Rattle.outcome.specs.Outcome.{answer, onAnswer, orElse, done, itself}
 use Rattle.outcome.proofs.Outcomes.{told-passes, told-refused-first}
 use Rattle.action.specs.Index.{orderOf}
-use Rattle.action.specs.Sector.{numerator}
 use Rattle.group.specs.declared.Group.{Group}
 use Rattle.group.specs.Value.{groupIn, generatorsOf}
 use Rattle.group.specs.Calls.{valueChecks, listLength}
-use Rattle.momentum.specs.Calls.{modeCount, counterLength, numeratorOutcome, tableOutcome, numerators}
+use Rattle.momentum.specs.Calls.{modeCount, tableOutcome}
+use Rattle.decisions.specs.Decisions.{numerators}
 use borrow.Author.Needs.{needs}
 use Rattle.momentum.proofs.lent.character_table.Statement.{statement}
 use Rattle.momentum.proofs.lent.character_table.Tie as tie

@@ -14,7 +14,8 @@ use Rattle.group.proofs.Accepted.{value-accepted, accepted-tables}
 use Rattle.row_lists.specs.Rows.{inFullBy, rowsInFull}
 use Rattle.row_lists.specs.Checks.{AcceptedRows}
 use Rattle.row_lists.proofs.ListChecks.{Agreeing, agreed-size}
-use Rattle.momentum.specs.Words.{sectorWordsChecks, decidedRows, sectorWords, sectorIndices, sectorSizes}
+use Rattle.momentum.specs.Words.{sectorWordsChecks}
+use Rattle.sector_rows.specs.Rows.{decidedRows, sectorWords, sectorIndices, sectorSizes}
 use Rattle.momentum.proofs.RowCalls.{sector-words-refused, sector-words-answer, passed-value, passed-modes, passed-lengths, passed-rows}
 use Rattle.momentum.proofs.lent.sector_words.Statement.{statement}
 use Rattle.momentum.proofs.lent.sector_words.Tie as tie

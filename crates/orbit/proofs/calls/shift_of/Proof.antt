@@ -1,6 +1,6 @@
 -- `calls::shift_of` meets its contract: the counter's length decides (`shift-length`, `shift-answer`), and the digits fill the whole counter
 -- (`overwritten`).
-use mathlib.Core.Path.{_≡_, sym, ap, _∙_}
+use mathlib.Core.Path.{sym, ap, _∙_}
 use native.Mathlib.Omega.{arith}
 use lib.ListN.{length}
 use denote.Ref.{now}
@@ -15,7 +15,8 @@ use Rattle.group.specs.declared.Group.{Group}
 use Rattle.group.specs.Value.{groupIn, generatorsOf}
 use Rattle.group.proofs.Accepted.{accepted-tables}
 use Rattle.group.proofs.Outcomes.{overwritten}
-use Rattle.orbit.specs.Calls.{wordOf, shiftOf, noWord}
+use Rattle.orbit.specs.Calls.{wordOf, shiftOf}
+use Rattle.row_lists.specs.Rows.{noWord}
 use Rattle.orbit.proofs.Outcomes.{shift-length, shift-answer}
 use Rattle.orbit.proofs.WordCalls.{call-group}
 use borrow.Author.Needs.{needs}

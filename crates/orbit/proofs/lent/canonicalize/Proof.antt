@@ -11,7 +11,8 @@ use Rattle.action.specs.Permutation.{Generator}
 use Rattle.action.specs.Orbit.{least, indexBack}
 use Rattle.group.specs.declared.Group.{Group}
 use Rattle.group.specs.Value.{generatorsOf}
-use Rattle.orbit.specs.Calls.{wordCallChecks, canonicalizeOutcome, withIndexOutcome, wordOf, indexOf, noWord}
+use Rattle.orbit.specs.Calls.{wordCallChecks, canonicalizeOutcome, withIndexOutcome, wordOf, indexOf}
+use Rattle.row_lists.specs.Rows.{noWord}
 use Rattle.group.specs.Value.{groupIn}
 use borrow.Author.Needs.{needs}
 use Rattle.orbit.proofs.lent.canonicalize.Statement.{statement}

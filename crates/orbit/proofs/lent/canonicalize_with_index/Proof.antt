@@ -1,19 +1,19 @@
--- `lent::canonicalize_with_index` meets its contract: the checks pass or refuse, and what `inner::least_of` finds of the word in full is what it answers.
+-- `lent::canonicalize_with_index` meets its contract: the checks pass or refuse, and what `least_of` finds of the word in full is what it answers.
 use Prim.Native.Nat.{ℕ}
 use mathlib.Core.Path.{_≡_, sym, ap, _∙_}
 use mathlib.Core.List.{List}
-use lib.ListN.{length}
 use denote.Ref.{now}
-use Rattle.outcome.specs.Outcome.{answer, verdict, onAnswer, orElse, done}
-use Rattle.outcome.proofs.Outcomes.{told-passes, told-refused, told-refused-first, call-answers}
+use Rattle.outcome.specs.Outcome.{answer, verdict, onAnswer, orElse}
+use Rattle.outcome.proofs.Outcomes.{told-passes, told-refused, call-answers}
 use Rattle.pauli_word.specs.Word.{Word}
-use Rattle.pauli_word.specs.Bytes.{lettersIn, bytesOf, inFull, wordIn}
+use Rattle.pauli_word.specs.Bytes.{lettersIn, bytesOf, wordIn}
 use Rattle.pauli_word.proofs.Planes.{bytes-of}
 use Rattle.group.specs.declared.Group.{Group}
 use Rattle.group.specs.Value.{groupIn, generatorsOf}
 use Rattle.action.specs.Orbit.{least, indexBack}
 use Rattle.group.proofs.Accepted.{accepted-tables}
-use Rattle.orbit.specs.Calls.{wordCallChecks, withIndexOutcome, wordOf, indexOf, noWord}
+use Rattle.orbit.specs.Calls.{wordCallChecks, withIndexOutcome, wordOf, indexOf}
+use Rattle.row_lists.specs.Rows.{noWord}
 use Rattle.orbit.proofs.WordCalls.{call-group, call-sites, call-long, full-word}
 use borrow.Author.Needs.{needs}
 use Rattle.orbit.proofs.lent.canonicalize_with_index.Statement.{statement}

@@ -6,13 +6,13 @@ use mathlib.Core.List.{List}
 use lib.ListN.{length}
 use denote.Ref.{now}
 use Rattle.outcome.specs.Outcome.{answer, verdict, onAnswer, orElse, done}
-use Rattle.outcome.proofs.Outcomes.{told-passes, told-refused, told-refused-first, call-answers}
-use Rattle.pauli_word.specs.Word.{Word}
-use Rattle.pauli_word.specs.Bytes.{lettersIn, bytesOf, inFull, wordIn}
+use Rattle.outcome.proofs.Outcomes.{told-passes}
+use Rattle.pauli_word.specs.Bytes.{inFull}
 use Rattle.pauli_word.proofs.Planes.{bytes-of}
 use Rattle.group.specs.declared.Group.{Group}
-use Rattle.group.specs.Value.{groupIn, generatorsOf}
-use Rattle.orbit.specs.Calls.{wordCallChecks, withShiftOutcome, wordOf, shiftOf, noWord}
+use Rattle.group.specs.Value.{groupIn}
+use Rattle.orbit.specs.Calls.{wordCallChecks, withShiftOutcome, wordOf, shiftOf}
+use Rattle.row_lists.specs.Rows.{noWord}
 use Rattle.orbit.proofs.WordCalls.{call-sites, call-long, call-fits, full-passes, full-word}
 use Rattle.orbit.proofs.Outcomes.{shift-refused, with-shift-full}
 use borrow.Author.Needs.{needs}

@@ -13,7 +13,8 @@ use Rattle.group.proofs.Accepted.{value-accepted, accepted-tables}
 use Rattle.row_lists.specs.Rows.{inFullBy, rowsInFull}
 use Rattle.row_lists.specs.Checks.{AcceptedRows}
 use Rattle.row_lists.proofs.ListChecks.{Agreeing, agreed-size}
-use Rattle.orbit.specs.Words.{wordsChecks, answeredRows, wordsOf, indicesOf}
+use Rattle.least_words.specs.Rows.{answeredRows, wordsOf, indicesOf}
+use Rattle.orbit.specs.Words.{wordsChecks}
 use Rattle.orbit.proofs.RowCalls.{words-refused, words-answer, passed-value, passed-lengths, passed-rows}
 use Rattle.orbit.proofs.lent.canonicalize_words.Statement.{statement}
 use Rattle.orbit.proofs.lent.canonicalize_words.Tie as tie

@@ -1,12 +1,13 @@
 -- `lent::next` meets its contract: the checks pass or refuse, and a walk that passes is what `steps::step_of` asks.
-use mathlib.Core.Path.{_≡_, sym, ap, _∙_}
+use mathlib.Core.Path.{sym, ap}
 use denote.Ref.{now}
-use Rattle.outcome.specs.Outcome.{answer, verdict, orElse}
+use Rattle.outcome.specs.Outcome.{answer, orElse}
 use Rattle.outcome.proofs.Outcomes.{told-passes, told-refused}
 use Rattle.group.specs.declared.Group.{Group}
 use Rattle.group.specs.Value.{groupIn}
 use Rattle.orbit.specs.declared.Walk.{Walk}
-use Rattle.orbit.specs.Calls.{walkIn, walkChecks, nextOutcome, entryOf, entryWord, afterEntry, noWord}
+use Rattle.orbit.specs.Calls.{walkIn, walkChecks, nextOutcome, entryOf, entryWord, afterEntry}
+use Rattle.row_lists.specs.Rows.{noWord}
 use borrow.Author.Needs.{needs}
 use Rattle.orbit.proofs.lent.next.Statement.{statement}
 use Rattle.orbit.proofs.lent.next.Tie as tie

@@ -3,7 +3,8 @@ use Prim.Native.Nat.{suc}
 use mathlib.Core.Path.{ap}
 use Rattle.group.specs.declared.Group.{Group}
 use Rattle.permutation.specs.Limits.{maxOrder}
-use Rattle.orbit.specs.Calls.{noWord, noWalk}
+use Rattle.orbit.specs.Calls.{noWalk}
+use Rattle.row_lists.specs.Rows.{noWord}
 use borrow.Author.Needs.{needs}
 use Rattle.orbit.proofs.steps.no_walk.Statement.{statement}
 use Rattle.orbit.proofs.steps.no_walk.Tie as tie

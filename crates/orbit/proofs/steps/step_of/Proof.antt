@@ -1,7 +1,7 @@
 -- `steps::step_of` meets its contract: a walk that passes its checks has an accepted group and word (`walk-group`, `walk-word`), and its index decides
 -- (`next-entry`, `next-finished`).
 use Prim.Native.Nat.{ℕ}
-use mathlib.Core.Path.{_≡_, sym, ap, _∙_}
+use mathlib.Core.Path.{sym, ap, _∙_}
 use native.Mathlib.Numerals.{add-one}
 use native.Mathlib.Omega.{arith}
 use lib.ListN.{getD}
@@ -16,7 +16,8 @@ use Rattle.group.specs.declared.Group.{Group}
 use Rattle.group.specs.Value.{groupIn, generatorsOf}
 use Rattle.group.proofs.Accepted.{accepted-tables}
 use Rattle.orbit.specs.declared.Walk.{Walk}
-use Rattle.orbit.specs.Calls.{walkIn, noWord, entryWord, afterEntry}
+use Rattle.orbit.specs.Calls.{walkIn, entryWord, afterEntry}
+use Rattle.row_lists.specs.Rows.{noWord}
 use Rattle.orbit.proofs.Walking.{same-walk, walk-group, walk-word}
 use Rattle.orbit.proofs.Outcomes.{next-entry, next-finished}
 use borrow.Author.Needs.{needs}

@@ -1,5 +1,8 @@
--- `part::least_part` meets its contract: there is room for the codes.
+-- `part::least_part` meets its contract: there is room for the codes and for the words.
 use Rattle.parted.proofs.Replacing.{room-length}
+use Rattle.pauli_word.specs.Limits.{wordLength}
+use lib.ListN.{length-replicate}
+use Prim.Native.Nat.{ℕ}
 use borrow.Author.Needs.{needs}
 use Rattle.parted.proofs.part.least_part.Statement.{statement}
 use Rattle.parted.proofs.part.least_part.Tie as tie
@@ -22,11 +25,26 @@ part-letters-start c = search needs
 part-letters-end : tie.Need-part-letters-end
 part-letters-end c = search needs
 
+slice-aggregate-in-codes : tie.Need-slice-aggregate-in-codes
+slice-aggregate-in-codes c = search needs
+
+slice-aggregate-in-codes-2 : tie.Need-slice-aggregate-in-codes-2
+slice-aggregate-in-codes-2 c = search needs
+
 in-codes-requires : tie.Need-in-codes-requires
 in-codes-requires c κs =
-    let p = c .before .before .before .before .before .before .before .before .before .before .before .before .before .before .pre in
-    let (ok, l) = p .1 .1 .1 .1 in
-    (p .0, (p .1 .0, (p .1 .1 .0, (p .1 .1 .1 .0, (ok, (room-length (c .before .before .before .before .before .before .before .before .before .before .before .before .before .before .args .sites) (ok .sites), room-length (c .before .before .before .before .before .before .before .before .before .before .before .before .before .before .args .m) (p .0 .sites), l))))))
+    let s = c .before .before .before .before .before .before .before .before .before .before .before .before .before .before .before .before in
+    let p = s .pre in
+    let (ok, l) = p .1 .1 .1 .1 in (
+      p .0,
+      (
+        p .1 .0,
+        (
+          p .1 .1 .0,
+          (p .1 .1 .1 .0, (ok, (room-length (s .args .sites) (ok .sites), room-length (s .args .m) (p .0 .sites), length-replicate {A = ℕ} wordLength 0, length-replicate {A = ℕ} wordLength 0, l))),
+        ),
+      ),
+    )
 
 same-length : tie.Need-same-length
 same-length c = search needs
@@ -47,6 +65,8 @@ least-part-spec =
     sub-in-codes-2
     part-letters-start
     part-letters-end
+    slice-aggregate-in-codes
+    slice-aggregate-in-codes-2
     in-codes-requires
     same-length
     same-length-2

@@ -1,16 +1,13 @@
--- `rows::part_by_way` meets its contract: the way is found once, and taken for each row.
+-- `rows::part_by_way` meets its contract: the way is taken for each row.
 use Rattle.rotation.proofs.Packs.{fresh-length}
 use native.Mathlib.Omega.{arith}
-use mathlib.Core.Path.{_∙_}
+use mathlib.Core.Path.{refl, _∙_}
 use borrow.Author.Needs.{needs}
 use Rattle.parted.proofs.rows.part_by_way.Statement.{statement}
 use Rattle.parted.proofs.rows.part_by_way.Tie as tie
 
-order-requires : tie.Need-order-requires
-order-requires c κs = search needs
-
-find-way-requires : tie.Need-find-way-requires
-find-way-requires c κs = let p = c .before .before .before .before .before .before .before .before .before .before .before .before .before .before .before .before .before .before .before .pre in (p .1 .0, (c .before .before .before .before .before .order .ensures, (p .1 .1 .1 .0, p .1 .1 .1 .1 .0)))
+returns : tie.Need-returns
+returns c = ((λ e. (refl, refl)), λ h i l. absurd (omega (arith, h, c .if1 .taken)))
 
 room-requires : tie.Need-room-requires
 room-requires c κs = search needs
@@ -26,11 +23,11 @@ part-left-end c = search needs
 
 part-rows-requires : tie.Need-part-rows-requires
 part-rows-requires c κs =
-    let p = c .before .before .before .before .before .before .before .before .before .before .before .before .before .before .before .before .before .before .before .before .before .before .before .before .before .before .before .before .before .before .before .before .before .before .before .before .before .before .before .pre in
-    let f = c .before .before .before .before .before .before .before .before .before .before .before .before .before .before .before .before .before .before .before .find-way .ensures in
-    let r = c .before .before .before .before .before .before .before .before .room in
-    let long = fresh-length (r .result) (omega (arith, r .ensures, f .0)) ∙ r .ensures in
-    (p .0, (p .1 .0, (f .1, (c .before .before .before .before .before .before .before .before .before .before .before .before .before .before .before .before .before .before .before .before .before .before .before .before .before .order .ensures, ((p .1 .1 .0 .0, p .1 .1 .0 .1, long), p .1 .1 .1 .1 .1)))))
+    let p = c .before .before .before .before .before .before .before .before .before .before .before .before .before .before .before .before .before .before .pre in
+    let r = c .before .before .before .room in
+    let q = p .1 .1 .1 .1 .0 in
+    let long = fresh-length (r .result) (omega (arith, r .ensures, p .1 .1 .0 .1)) ∙ r .ensures in
+    (p .0, (p .1 .0, (p .1 .1 .0 .0, (p .1 .1 .1 .0, ((q .0, q .1, long), p .1 .1 .1 .1 .1)))))
 
 same-length : tie.Need-same-length
 same-length c = search needs
@@ -38,30 +35,14 @@ same-length c = search needs
 same-length-2 : tie.Need-same-length-2
 same-length-2 c = search needs
 
-same-length-3 : tie.Need-same-length-3
-same-length-3 c = search needs
-
-same-length-4 : tie.Need-same-length-4
-same-length-4 c = search needs
-
-same-length-5 : tie.Need-same-length-5
-same-length-5 c = search needs
-
-same-length-6 : tie.Need-same-length-6
-same-length-6 c = search needs
-
-same-length-7 : tie.Need-same-length-7
-same-length-7 c = search needs
-
-returns : tie.Need-returns
-returns c = search needs
+returns-2 : tie.Need-returns-2
+returns-2 c = ((λ e. absurd (c .before .before .before .before .before .before .before .before .before .before .if1 .left e)), λ h. c .before .before .before .before .before .part-rows .ensures)
 
 pub part-by-way-spec : {M : Type 1} → statement M
 part-by-way-spec =
     tie.close
     (tie.spec
-    order-requires
-    find-way-requires
+    returns
     room-requires
     sub-part-rows
     part-left-start
@@ -69,9 +50,4 @@ part-by-way-spec =
     part-rows-requires
     same-length
     same-length-2
-    same-length-3
-    same-length-4
-    same-length-5
-    same-length-6
-    same-length-7
-    returns)
+    returns-2)

@@ -1,7 +1,8 @@
--- `rows::part_of_all` meets its contract: there is room for the part's lists and tables.
+-- `rows::part_of_all` meets its contract: there is room for what is made ready.
 use Rattle.permutation.specs.Limits.{targetPlaces}
 use Rattle.pauli_word.specs.Limits.{maxSites}
 use lib.ListN.{length-replicate}
+use native.Mathlib.Omega.{arith}
 use Prim.Native.Nat.{ℕ}
 use mathlib.Core.Path.{refl}
 use borrow.Author.Needs.{needs}
@@ -26,10 +27,16 @@ slice-aggregate-part-in-5 c = search needs
 slice-aggregate-part-in-6 : tie.Need-slice-aggregate-part-in-6
 slice-aggregate-part-in-6 c = search needs
 
+slice-aggregate-part-in-7 : tie.Need-slice-aggregate-part-in-7
+slice-aggregate-part-in-7 c = search needs
+
+slice-aggregate-part-in-8 : tie.Need-slice-aggregate-part-in-8
+slice-aggregate-part-in-8 c = search needs
+
 part-in-requires : tie.Need-part-in-requires
 part-in-requires c κs =
-    let p = c .before .before .before .before .before .before .before .before .before .before .before .before .before .before .pre in
-    (p .0, (p .1 .0, ((refl, refl, length-replicate {A = ℕ} maxSites 0, length-replicate {A = ℕ} maxSites 0), ((length-replicate {A = ℕ} targetPlaces 0, refl), p .1 .1))))
+    let p = c .before .before .before .before .before .before .before .before .before .before .before .before .before .before .before .before .pre in
+    (p .0, (p .1 .0, ((length-replicate {A = ℕ} maxSites 0, length-replicate {A = ℕ} targetPlaces 0, refl), ((refl, refl, omega arith), ((length-replicate {A = ℕ} maxSites 0, length-replicate {A = ℕ} maxSites 0), p .1 .1)))))
 
 same-length : tie.Need-same-length
 same-length c = search needs
@@ -50,6 +57,8 @@ part-of-all-spec =
     slice-aggregate-part-in-4
     slice-aggregate-part-in-5
     slice-aggregate-part-in-6
+    slice-aggregate-part-in-7
+    slice-aggregate-part-in-8
     part-in-requires
     same-length
     same-length-2

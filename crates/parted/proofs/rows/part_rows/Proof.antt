@@ -27,7 +27,7 @@ abbrev Inv-loop : tie.InvT-loop
 Inv-loop targets orders generators sites labels part way own-targets own-orders k m strides rests masks site place order table left₀ representatives₀ indices₀ i₀ left representatives indices i =
     (i ≤ length indices)
     × (length left ≡ length left₀)
-    × Walked (Stepped sites m (siteOf table) (generatorsIn k m own-targets own-orders) (generatorsIn generators sites targets orders) labels part) representatives₀ indices₀ representatives indices i
+    × Walked (λ j. Stepped sites m (siteOf table) (generatorsIn k m own-targets own-orders) (generatorsIn generators sites targets orders) labels part (rowAt representatives₀ j) (getD indices₀ j 0)) representatives₀ indices₀ representatives indices i
 
 abbrev μ-loop : tie.MeasureT-loop
 μ-loop targets orders generators sites labels part way own-targets own-orders k m strides rests masks site place order table left₀ representatives₀ indices₀ i₀ left representatives indices i = length indices - i
@@ -39,9 +39,11 @@ gens c = let a = c .args in generatorsIn (a .generators) (a .sites) (now (a .tar
 abbrev ownGens : (c : tie.Start Inv-loop μ-loop) → List Generator
 ownGens c = let a = c .args in generatorsIn (a .k) (a .m) (now (a .own-targets)) (now (a .own-orders))
 
--- what the part's work on a row comes to
-abbrev Work : (c : tie.Start Inv-loop μ-loop) → List ℕ → ℕ → List ℕ → ℕ → Type 0
-Work c = let a = c .args in Stepped (a .sites) (a .m) (siteOf (now (a .table))) (ownGens c) (gens c) (now (a .labels)) (a .part)
+-- what the part's work on row j comes to
+abbrev Work : (c : tie.Start Inv-loop μ-loop) → ℕ → List ℕ → ℕ → Type 0
+Work c j =
+    let a = c .args in
+    Stepped (a .sites) (a .m) (siteOf (now (a .table))) (ownGens c) (gens c) (now (a .labels)) (a .part) (rowAt (now (a .representatives)) j) (getD (now (a .indices)) j 0)
 
 -- in the loop: row i is one of the rows
 module _ (c : tie.In-loop Inv-loop μ-loop) where

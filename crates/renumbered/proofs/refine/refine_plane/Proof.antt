@@ -8,16 +8,16 @@ use denote.Ref.{now}
 use Rattle.elements.specs.HeldGroup.{generatorsIn}
 use Rattle.packed.specs.Packed.{bitOf}
 use Rattle.renumbered.proofs.Turning.{order-some}
-use Rattle.renumbered.proofs.Sites.{Read, read-start, read-alone, read-tired, read-next, read-end}
+use Rattle.renumbered.proofs.Sites.{Read, read-start, read-alone, read-next, read-end}
 use Rattle.renumbered.proofs.refine.refine_plane.Statement.{statement}
 use Rattle.renumbered.proofs.refine.refine_plane.Tie as tie
 
 abbrev Inv-loop : tie.InvT-loop
-Inv-loop targets orders generators sites strides rests order place plane bits₀ left₀ stale₀ q₀ bits left stale q =
-    (length bits ≡ length bits₀) × (length left ≡ length left₀) × Read (generatorsIn generators sites targets orders) sites order (bitOf plane) place (bitOf left₀) (bitOf left) q stale
+Inv-loop targets orders generators sites strides rests order place plane bits₀ left₀ q₀ bits left q =
+    (length bits ≡ length bits₀) × (length left ≡ length left₀) × Read (generatorsIn generators sites targets orders) sites order (bitOf plane) place (bitOf left₀) (bitOf left) q
 
 abbrev μ-loop : tie.MeasureT-loop
-μ-loop targets orders generators sites strides rests order place plane bits₀ left₀ stale₀ q₀ bits left stale q =
+μ-loop targets orders generators sites strides rests order place plane bits₀ left₀ q₀ bits left q =
     sites - q
 
 loop-holds : tie.Need-loop-holds Inv-loop μ-loop
@@ -64,47 +64,32 @@ returns : tie.Need-returns Inv-loop μ-loop
 returns c =
     let b = c .before .before .before .before .before .before .before .before .before .before .bits-at in
     let r = c .before .before .before .before .before .strike-round in
-    read-alone (c .before .before .before .before .before .before .before .before .before .before .before .before .before .before .loop .inv .2) (c .before .before .before .before .before .before .before .before .before .before .before .before .before .loop-test .taken) (bitOf (b .last .1 .1 .1 .1 .1 .1 .1 .1 .1 .0)) (b .ensures .0) (bitOf (r .last .1 .0)) (r .ensures .0) (c .before .told .given .0 .0) (rw (c .before .told .given .1) at (r .ensures .1))
-
-waited-requires : tie.Need-waited-requires Inv-loop μ-loop
-waited-requires c κs = c .before .before .before .before .before .before .before .before .before .before .before .before .loop .inv .2 .few
-
-same-length-3 : tie.Need-same-length-3 Inv-loop μ-loop
-same-length-3 c = c .before .before .before .before .before .before .before .before .before .before .bits-at .kept .1 .1 .1 .1 .1 .1 .1 .1 .1 .0 ∙ c .before .before .before .before .before .before .before .before .before .before .before .before .before .before .loop .inv .0
-
-same-length-4 : tie.Need-same-length-4 Inv-loop μ-loop
-same-length-4 c = c .before .before .before .before .before .strike-round .kept .1 .0 ∙ c .before .before .before .before .before .before .before .before .before .before .before .before .before .before .loop .inv .1
-
-returns-2 : tie.Need-returns-2 Inv-loop μ-loop
-returns-2 c =
-    let b = c .before .before .before .before .before .before .before .before .before .before .bits-at in
-    let r = c .before .before .before .before .before .strike-round in
-    read-tired (c .before .before .before .before .before .before .before .before .before .before .before .before .before .before .loop .inv .2) (c .before .before .before .before .before .before .before .before .before .before .before .before .before .loop-test .taken) (bitOf (b .last .1 .1 .1 .1 .1 .1 .1 .1 .1 .0)) (b .ensures .0) (bitOf (r .last .1 .0)) (r .ensures .0)
+    (refl, read-alone (c .before .before .before .before .before .before .before .before .before .before .before .before .before .before .loop .inv .2) (c .before .before .before .before .before .before .before .before .before .before .before .before .before .loop-test .taken) (bitOf (b .last .1 .1 .1 .1 .1 .1 .1 .1 .1 .0)) (b .ensures .0) (bitOf (r .last .1 .0)) (r .ensures .0) (c .before .told .given .0 .0) (rw (c .before .told .given .1) at (r .ensures .1)))
 
 add-q : tie.Need-add-q Inv-loop μ-loop
-add-q c = omega (arith, c .before .before .before .before .before .before .before .before .before .before .before .before .before .loop-test .taken, c .before .before .before .before .before .before .before .before .before .before .before .before .before .before .before .before .before .before .before .before .before .before .before .pre .0 .sites)
+add-q c = omega (arith, c .before .before .before .before .before .before .before .before .before .before .before .loop-test .taken, c .before .before .before .before .before .before .before .before .before .before .before .before .before .before .before .before .before .before .before .before .before .pre .0 .sites)
 
 loop-less : tie.Need-loop-less Inv-loop μ-loop
-loop-less c = omega (arith, c .before .before .before .before .before .before .before .before .before .before .before .before .before .loop-test .taken)
+loop-less c = omega (arith, c .before .before .before .before .before .before .before .before .before .before .before .loop-test .taken)
 
 loop-again : tie.Need-loop-again Inv-loop μ-loop
 loop-again c =
-    let b = c .before .before .before .before .before .before .before .before .before .before .bits-at in
-    let r = c .before .before .before .before .before .strike-round in
-    let l = c .before .before .before .before .before .before .before .before .before .before .before .before .before .before .loop in (
+    let b = c .before .before .before .before .before .before .before .before .bits-at in
+    let r = c .before .before .before .strike-round in
+    let l = c .before .before .before .before .before .before .before .before .before .before .before .before .loop in (
       b .kept .1 .1 .1 .1 .1 .1 .1 .1 .1 .0 ∙ l .inv .0,
       r .kept .1 .0 ∙ l .inv .1,
-      read-next (l .inv .2) (c .before .before .before .before .before .before .before .before .before .before .before .before .before .loop-test .taken) (bitOf (b .last .1 .1 .1 .1 .1 .1 .1 .1 .1 .0)) (b .ensures .0) (bitOf (r .last .1 .0)) (r .ensures .0) (omega (arith, c .if1 .left)),
+      read-next (l .inv .2) (c .before .before .before .before .before .before .before .before .before .before .before .loop-test .taken) (bitOf (b .last .1 .1 .1 .1 .1 .1 .1 .1 .1 .0)) (b .ensures .0) (bitOf (r .last .1 .0)) (r .ensures .0),
     )
 
-same-length-5 : tie.Need-same-length-5 Inv-loop μ-loop
-same-length-5 c = c .before .loop .inv .0
+same-length-3 : tie.Need-same-length-3 Inv-loop μ-loop
+same-length-3 c = c .before .loop .inv .0
 
-same-length-6 : tie.Need-same-length-6 Inv-loop μ-loop
-same-length-6 c = c .before .loop .inv .1
+same-length-4 : tie.Need-same-length-4 Inv-loop μ-loop
+same-length-4 c = c .before .loop .inv .1
 
-returns-3 : tie.Need-returns-3 Inv-loop μ-loop
-returns-3 c = read-end (c .before .loop .inv .2) (c .loop-test .left)
+returns-2 : tie.Need-returns-2 Inv-loop μ-loop
+returns-2 c = (refl, read-end (c .before .loop .inv .2) (c .loop-test .left))
 
 pub refine-plane-spec : {M : Type 1} → statement M
 refine-plane-spec =
@@ -122,13 +107,9 @@ refine-plane-spec =
     same-length
     same-length-2
     returns
-    waited-requires
-    same-length-3
-    same-length-4
-    returns-2
     add-q
     loop-less
     loop-again
-    same-length-5
-    same-length-6
-    returns-3)
+    same-length-3
+    same-length-4
+    returns-2)

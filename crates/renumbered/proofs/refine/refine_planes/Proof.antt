@@ -1,12 +1,13 @@
 -- `refine::refine_planes` meets its contract: the X plane is read from bit 0 on, the Z plane after it.
 use Prim.Native.Nat.{_+_}
-use mathlib.Core.Path.{sym, _∙_}
+use mathlib.Core.Path.{refl, sym, _∙_}
+use mathlib.Core.Bool.{true≢false}
 use native.Mathlib.Omega.{arith}
 use denote.Ref.{now}
 use Rattle.elements.specs.HeldGroup.{generatorsIn}
 use Rattle.packed.specs.Packed.{bitOf, lettersBy}
 use Rattle.packed.proofs.Packing.{lettersBy-length}
-use Rattle.renumbered.proofs.ByBits.{bitsOf, staged-alone, staged-tired, staged-end}
+use Rattle.renumbered.proofs.ByBits.{bitsOf, staged-alone, staged-end}
 use Rattle.renumbered.proofs.Numbers.{reads-x, reads-z}
 use borrow.Author.Needs.{needs}
 use Rattle.renumbered.proofs.refine.refine_planes.Statement.{statement}
@@ -47,8 +48,8 @@ returns c =
     let a = s .args in
     let gs = generatorsIn (a .generators) (a .sites) (now (a .targets)) (now (a .orders)) in
     let r = c .before .before .before .before .before .before .before .refine-plane in
-    λ f g x z. staged-alone gs (lettersBy (a .sites) f g) (lettersBy-length (a .sites) f g) (s .pre .1 .0) (bitOf (r .last .1 .1 .1 .1 .1 .1 .1 .1 .1 .1 .0)) (c .before .stage .given .0 .0) (0 + a .sites) (omega arith)
-    ((rw (c .before .stage .given .1) at (r .ensures)) (bitsOf (a .sites) gs (lettersBy (a .sites) f g)) 0 (s .pre .1 .1 .1 .1 .1 _) (reads-x (s .pre .0 .valid) (s .pre .1 .1 .1 .0) f g (a .order) (now (a .x)) x))
+    (refl, λ f g x z. staged-alone gs (lettersBy (a .sites) f g) (lettersBy-length (a .sites) f g) (s .pre .1 .0) (bitOf (r .last .1 .1 .1 .1 .1 .1 .1 .1 .1 .1 .0)) (c .before .stage .given .0 .0) (0 + a .sites) (omega arith)
+    ((rw (c .before .stage .given .1) at (r .ensures .1)) (bitsOf (a .sites) gs (lettersBy (a .sites) f g)) 0 (s .pre .1 .1 .1 .1 .1 _) (reads-x (s .pre .0 .valid) (s .pre .1 .1 .1 .0) f g (a .order) (now (a .x)) x)))
 
 same-length-3 : tie.Need-same-length-3
 same-length-3 c = search needs
@@ -58,12 +59,8 @@ same-length-4 c = search needs
 
 returns-2 : tie.Need-returns-2
 returns-2 c =
-    let s = c .before .before .before .before .before .before .before .before .before .before .before .before .before .before .before .before .before .before .before in
-    let a = s .args in
-    let gs = generatorsIn (a .generators) (a .sites) (now (a .targets)) (now (a .orders)) in
     let r = c .before .before .before .before .before .before .refine-plane in
-    λ f g x z. staged-tired gs (lettersBy (a .sites) f g) (lettersBy-length (a .sites) f g) (s .pre .1 .0) (bitOf (r .last .1 .1 .1 .1 .1 .1 .1 .1 .1 .1 .0)) (0 + a .sites) (omega arith)
-    ((rw (c .enum-told .given .1) at (r .ensures)) (bitsOf (a .sites) gs (lettersBy (a .sites) f g)) 0 (s .pre .1 .1 .1 .1 .1 _) (reads-x (s .pre .0 .valid) (s .pre .1 .1 .1 .0) f g (a .order) (now (a .x)) x))
+    absurd (true≢false (rw (c .enum-told .given .1) at (r .ensures .0)))
 
 same-length-5 : tie.Need-same-length-5
 same-length-5 c = search needs
@@ -78,10 +75,10 @@ returns-3 c =
     let gs = generatorsIn (a .generators) (a .sites) (now (a .targets)) (now (a .orders)) in
     let r = c .before .before .before .before .before .before .before .before .before .before .before .before .before .refine-plane in
     let r2 = c .before .before .before .before .refine-plane2 in
-    λ f g x z. staged-end gs (lettersBy (a .sites) f g) (lettersBy-length (a .sites) f g) (s .pre .1 .0) (bitOf (r2 .last .1 .1 .1 .1 .1 .1 .1 .1 .1 .1 .0)) (r2 .result)
-    (r2 .ensures (bitsOf (a .sites) gs (lettersBy (a .sites) f g)) (0 + a .sites)
-    ((rw (c .before .before .before .before .before .before .before .enum-told2 .given .1) at (r .ensures)) (bitsOf (a .sites) gs (lettersBy (a .sites) f g)) 0 (s .pre .1 .1 .1 .1 .1 _) (reads-x (s .pre .0 .valid) (s .pre .1 .1 .1 .0) f g (a .order) (now (a .x)) x))
-    (reads-z (s .pre .0 .valid) (s .pre .1 .1 .1 .0) f g (a .order) (now (a .z)) z))
+    (r2 .ensures .0, λ f g x z. staged-end gs (lettersBy (a .sites) f g) (lettersBy-length (a .sites) f g) (s .pre .1 .0) (bitOf (r2 .last .1 .1 .1 .1 .1 .1 .1 .1 .1 .1 .0)) (r2 .result)
+    (r2 .ensures .1 (bitsOf (a .sites) gs (lettersBy (a .sites) f g)) (0 + a .sites)
+    ((rw (c .before .before .before .before .before .before .before .enum-told2 .given .1) at (r .ensures .1)) (bitsOf (a .sites) gs (lettersBy (a .sites) f g)) 0 (s .pre .1 .1 .1 .1 .1 _) (reads-x (s .pre .0 .valid) (s .pre .1 .1 .1 .0) f g (a .order) (now (a .x)) x))
+    (reads-z (s .pre .0 .valid) (s .pre .1 .1 .1 .0) f g (a .order) (now (a .z)) z)))
 
 pub refine-planes-spec : {M : Type 1} → statement M
 refine-planes-spec =

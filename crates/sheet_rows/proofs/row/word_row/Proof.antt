@@ -15,9 +15,9 @@ use Rattle.action.specs.Index.{orderOf}
 use Rattle.action.specs.Orbit.{least}
 use Rattle.permutation.specs.Limits.{maxOrder}
 use Rattle.elements.specs.HeldGroup.{generatorsIn}
-use Rattle.momentum.specs.declared.inner.Placement.the-variants as Placement
-use Rattle.momentum.specs.Calls.{decision, rowWord}
-use Rattle.momentum.specs.Parts.{placementOf, indexIn}
+use Rattle.decisions.specs.declared.placement.Placement.the-variants as Placement
+use Rattle.decisions.specs.Decisions.{decision, rowWord}
+use Rattle.decisions.specs.Placements.{placementOf, indexIn}
 use Rattle.text.specs.Text.{decimal, maxWritten}
 use Rattle.sheet_rows.specs.Rows.{missing, oneText, rest, numbersRoom}
 use Rattle.sheet_lines.specs.Lines.{zeroText}

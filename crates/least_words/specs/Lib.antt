@@ -1,0 +1,2 @@
+-- What rows of words are answered.
+pub mod Rows

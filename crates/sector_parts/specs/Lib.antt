@@ -1,0 +1,2 @@
+-- Decisions part by part.
+pub mod Steps

@@ -1,0 +1,2 @@
+-- The laws of rows that are read and written.
+pub mod Written

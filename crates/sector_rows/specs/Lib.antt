@@ -1,0 +1,2 @@
+-- The decisions for rows of words.
+pub mod Rows

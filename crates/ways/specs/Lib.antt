@@ -1,0 +1,3 @@
+-- Which way a group takes, and words read through a table.
+pub mod Through
+pub mod Ways
