@@ -73,7 +73,48 @@ fn rows_in_parts(
     true
 }
 
-// The decisions for rows, part by part, where it is of use to ask for the parts; whether the group has parts, and else the lists hold nothing of use.
+// The decisions for rows, part by part; whether the group has parts, and else the lists hold nothing of use.
+fn rows_by_parts(
+    targets: &[u16],
+    orders: &[u32],
+    generators: usize,
+    sites: usize,
+    modes: &[i32],
+    words: &[u8],
+    size: usize,
+    representatives: &mut [u8],
+    indices: &mut [usize],
+    sizes: &mut [usize],
+) -> bool
+    requires { ⌜ Tables generators sites (now targets) (now orders) ⌝ }
+    requires { ⌜ length (now modes) ≡ generators ⌝ }
+    requires { ⌜ EitherLength size × (length (now words) ≡ size * length (now indices)) ⌝ }
+    requires { ⌜ AcceptedRows sites (inFullBy size (length (now indices)) (now words)) (length (now indices)) ⌝ }
+    requires { ⌜ length (now representatives) ≡ wordLength * length (now indices) ⌝ }
+    requires { ⌜ length (now sizes) ≡ length (now indices) ⌝ }
+    ensures representatives { λ r. ⌜ (r ≡ true → now (representatives .exit) ≡ sectorWords (decidedRows (generatorsIn generators sites (now (targets .entry)) (now (orders .entry))) (now (modes .entry)) sites (inFullBy size (length (now (indices .entry))) (now (words .entry))) (length (now (indices .entry))))) ⌝ }
+    ensures indices { λ r. ⌜ (r ≡ true → now (indices .exit) ≡ sectorIndices (decidedRows (generatorsIn generators sites (now (targets .entry)) (now (orders .entry))) (now (modes .entry)) sites (inFullBy size (length (now (indices .entry))) (now (words .entry))) (length (now (indices .entry))))) ⌝ }
+    ensures sizes { λ r. ⌜ (r ≡ true → now (sizes .exit) ≡ sectorSizes (decidedRows (generatorsIn generators sites (now (targets .entry)) (now (orders .entry))) (now (modes .entry)) sites (inFullBy size (length (now (indices .entry))) (now (words .entry))) (length (now (indices .entry))))) ⌝ }
+{
+    let mut labels = [0u16; MAX_GENERATORS];
+    let mut owners = [0u16; MAX_SITES];
+    rows_in_parts(
+        targets,
+        orders,
+        generators,
+        sites,
+        modes,
+        words,
+        size,
+        &mut labels[0..generators],
+        &mut owners,
+        representatives,
+        indices,
+        sizes,
+    )
+}
+
+// The same where it is of use to ask for the parts.
 pub fn rows_taken(
     path: Path,
     order: usize,
@@ -101,9 +142,7 @@ pub fn rows_taken(
     if !by_parts::is_worth(path, order, sites, indices.len()) {
         return false;
     }
-    let mut labels = [0u16; MAX_GENERATORS];
-    let mut owners = [0u16; MAX_SITES];
-    rows_in_parts(
+    rows_by_parts(
         targets,
         orders,
         generators,
@@ -111,8 +150,6 @@ pub fn rows_taken(
         modes,
         words,
         size,
-        &mut labels[0..generators],
-        &mut owners,
         representatives,
         indices,
         sizes,
@@ -141,9 +178,10 @@ pub fn word_taken(
     ensures index { λ r. ⌜ (r ≡ true → getD (now (back .exit)) 0 0 ≡ rowIndex (decision (generatorsIn generators sites (now (targets .entry)) (now (orders .entry))) (now (modes .entry)) (lettersIn sites (now (word .entry))))) ⌝ }
     ensures size { λ r. ⌜ (r ≡ true → getD (now (orbit .exit)) 0 0 ≡ rowOrbit (decision (generatorsIn generators sites (now (targets .entry)) (now (orders .entry))) (now (modes .entry)) (lettersIn sites (now (word .entry))))) ⌝ }
 {
-    rows_taken(
-        path,
-        order,
+    if !by_parts::is_worth(path, order, sites, 1) {
+        return false;
+    }
+    rows_by_parts(
         targets,
         orders,
         generators,

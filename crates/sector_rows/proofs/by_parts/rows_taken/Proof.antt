@@ -1,10 +1,6 @@
--- `by_parts::rows_taken` meets its contract: where it is of no use the answer is no; else there is room for a label a generator and an owner a site.
+-- `by_parts::rows_taken` meets its contract: where it is of no use the answer is no, and else that of the parts.
 use borrow.Author.Needs.{needs}
-use Prim.Native.Nat.{ℕ}
 use mathlib.Core.Bool.{false≢true}
-use lib.ListN.{length-replicate}
-use Rattle.pauli_word.specs.Limits.{maxSites}
-use Rattle.least_words.proofs.Answers.{labels-length}
 use Rattle.sector_rows.proofs.by_parts.rows_taken.Statement.{statement}
 use Rattle.sector_rows.proofs.by_parts.rows_taken.Tie as tie
 
@@ -14,23 +10,8 @@ is-worth-requires c κs = search needs
 returns : tie.Need-returns
 returns c = (λ e. absurd (false≢true e), (λ e. absurd (false≢true e), λ e. absurd (false≢true e)))
 
-sub-rows-in-parts : tie.Need-sub-rows-in-parts
-sub-rows-in-parts c = search needs
-
-part-labels-start : tie.Need-part-labels-start
-part-labels-start c = search needs
-
-part-labels-end : tie.Need-part-labels-end
-part-labels-end c = search needs
-
-slice-aggregate-rows-in-parts : tie.Need-slice-aggregate-rows-in-parts
-slice-aggregate-rows-in-parts c = search needs
-
-rows-in-parts-requires : tie.Need-rows-in-parts-requires
-rows-in-parts-requires c κs =
-    let s = c .before .before .before .before .before .before .before .before .before .before .before .before .before in
-    let p = s .pre in
-    (p .0, (p .1 .0, (p .1 .1 .0, (p .1 .1 .1 .0, (p .1 .1 .1 .1 .0, (p .1 .1 .1 .1 .1, (labels-length (s .args .generators) (p .0 .few), length-replicate {A = ℕ} maxSites 0)))))))
+rows-by-parts-requires : tie.Need-rows-by-parts-requires
+rows-by-parts-requires c κs = search needs
 
 same-length : tie.Need-same-length
 same-length c = search needs
@@ -50,11 +31,7 @@ rows-taken-spec =
     (tie.spec
     is-worth-requires
     returns
-    sub-rows-in-parts
-    part-labels-start
-    part-labels-end
-    slice-aggregate-rows-in-parts
-    rows-in-parts-requires
+    rows-by-parts-requires
     same-length
     same-length-2
     same-length-3
