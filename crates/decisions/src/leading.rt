@@ -15,8 +15,8 @@ ghost use Rattle.packed.specs.Packed.{bitOf};
 ghost use Rattle.grid.specs.Candidates.{Leading};
 ghost use Rattle.decisions.specs.Placements.{placementOf};
 ghost use Rattle.decisions.specs.Decisions.{decision};
-use crate::placement::Placement;
 use crate::phase;
+use crate::placement::Placement;
 use crate::stabilizer::Test;
 
 // Whether every mode reduces to 0: then every index has numerator 0. Without generators it is so.

@@ -11,14 +11,14 @@ ghost use Rattle.momentum.specs.Calls.{numeratorOutcome, tableOutcome, s
 ghost use Rattle.decisions.specs.Decisions.{rowWord};
 use crate::InSector;
 use crate::Sector;
+use decisions::phase;
+use decisions::placement::Placement;
 use outcome::Number;
 use outcome::Refusal;
 use outcome::Verdict;
 use pauli_word::WORD_BYTES;
 use permutation::MAX_GENERATORS;
 use permutation::TARGET_PLACES;
-use decisions::phase;
-use decisions::placement::Placement;
 
 // 18, 20, then the numerator of a counter.
 pub fn numerator_of<'a>(

@@ -62,7 +62,15 @@ pub fn turn_row(
         };
     };
     let modulus = elements::index::phase_modulus(targets, orders, generators, sites);
-    let numerator = decisions::phase::numerator_at(targets, orders, generators, sites, modulus, modes, index);
+    let numerator = decisions::phase::numerator_at(
+        targets,
+        orders,
+        generators,
+        sites,
+        modulus,
+        modes,
+        index,
+    );
     let entry = numerator * PHASES / modulus;
     Turned {
         kept: true,

@@ -189,8 +189,14 @@ module _ {n : ℕ} {gs : List Generator} (v : Valid n gs) (labels owners : List 
       ≡ joinedIndex (spread (before p) labels gs (rowIndex (decision done doneModes w))) (rowOrbit (decision done doneModes w))
       (spread (own p) labels gs (rowIndex (decision part partModes w))) (rowOrbit (decision part partModes w))
   next-joined =
-      rw (decided-index more moreModes w, decided-index done doneModes w, decided-size done doneModes w, decided-index part partModes w, decided-size part partModes w,
-      next-keeps v labels owners d p w long ks modes few)
+      rw (
+        decided-index more moreModes w,
+        decided-index done doneModes w,
+        decided-size done doneModes w,
+        decided-index part partModes w,
+        decided-size part partModes w,
+        next-keeps v labels owners d p w long ks modes few,
+      )
       (go (keeps done doneModes w) (keeps part partModes w) refl refl)
     where
       go : (a b : Bool) → keeps done doneModes w ≡ a → keeps part partModes w ≡ b

@@ -12,10 +12,10 @@ ghost use Rattle.parted.specs.Steps.{siteOf, PartLeast};
 ghost use Rattle.decisions.specs.Decisions.{decision};
 ghost use Rattle.decisions.specs.Placements.{placementOf};
 ghost use Rattle.ways.specs.Ways.{Found, roomOf};
-use pauli_word::MAX_SITES;
-use pauli_word::WORD_BYTES;
 use decisions::placement::Placement;
 use decisions::stabilizer;
+use pauli_word::MAX_SITES;
+use pauli_word::WORD_BYTES;
 use ways::way::Way;
 
 // The decision, with room for the codes of the word and of its letters at the part's sites, for these letters as a word and for the least that the part makes

@@ -47,9 +47,11 @@ returns c =
     let s = c .before .before .before .before .before .before .before .before .before .before .before .before .before .before .before .before .before .before .before .before in
     let a = s .args in
     let gs = generatorsIn (a .generators) (a .sites) (now (a .targets)) (now (a .orders)) in
-    let r = c .before .before .before .before .before .before .before .refine-plane in
-    (refl, λ f g x z. staged-alone gs (lettersBy (a .sites) f g) (lettersBy-length (a .sites) f g) (s .pre .1 .0) (bitOf (r .last .1 .1 .1 .1 .1 .1 .1 .1 .1 .1 .0)) (c .before .stage .given .0 .0) (0 + a .sites) (omega arith)
-    ((rw (c .before .stage .given .1) at (r .ensures .1)) (bitsOf (a .sites) gs (lettersBy (a .sites) f g)) 0 (s .pre .1 .1 .1 .1 .1 _) (reads-x (s .pre .0 .valid) (s .pre .1 .1 .1 .0) f g (a .order) (now (a .x)) x)))
+    let r = c .before .before .before .before .before .before .before .refine-plane in (
+      refl,
+      λ f g x z. staged-alone gs (lettersBy (a .sites) f g) (lettersBy-length (a .sites) f g) (s .pre .1 .0) (bitOf (r .last .1 .1 .1 .1 .1 .1 .1 .1 .1 .1 .0)) (c .before .stage .given .0 .0) (0 + a .sites) (omega arith)
+          ((rw (c .before .stage .given .1) at (r .ensures .1)) (bitsOf (a .sites) gs (lettersBy (a .sites) f g)) 0 (s .pre .1 .1 .1 .1 .1 _) (reads-x (s .pre .0 .valid) (s .pre .1 .1 .1 .0) f g (a .order) (now (a .x)) x)),
+    )
 
 same-length-3 : tie.Need-same-length-3
 same-length-3 c = search needs
@@ -74,11 +76,13 @@ returns-3 c =
     let a = s .args in
     let gs = generatorsIn (a .generators) (a .sites) (now (a .targets)) (now (a .orders)) in
     let r = c .before .before .before .before .before .before .before .before .before .before .before .before .before .refine-plane in
-    let r2 = c .before .before .before .before .refine-plane2 in
-    (r2 .ensures .0, λ f g x z. staged-end gs (lettersBy (a .sites) f g) (lettersBy-length (a .sites) f g) (s .pre .1 .0) (bitOf (r2 .last .1 .1 .1 .1 .1 .1 .1 .1 .1 .1 .0)) (r2 .result)
-    (r2 .ensures .1 (bitsOf (a .sites) gs (lettersBy (a .sites) f g)) (0 + a .sites)
-    ((rw (c .before .before .before .before .before .before .before .enum-told2 .given .1) at (r .ensures .1)) (bitsOf (a .sites) gs (lettersBy (a .sites) f g)) 0 (s .pre .1 .1 .1 .1 .1 _) (reads-x (s .pre .0 .valid) (s .pre .1 .1 .1 .0) f g (a .order) (now (a .x)) x))
-    (reads-z (s .pre .0 .valid) (s .pre .1 .1 .1 .0) f g (a .order) (now (a .z)) z)))
+    let r2 = c .before .before .before .before .refine-plane2 in (
+      r2 .ensures .0,
+      λ f g x z. staged-end gs (lettersBy (a .sites) f g) (lettersBy-length (a .sites) f g) (s .pre .1 .0) (bitOf (r2 .last .1 .1 .1 .1 .1 .1 .1 .1 .1 .1 .0)) (r2 .result)
+          (r2 .ensures .1 (bitsOf (a .sites) gs (lettersBy (a .sites) f g)) (0 + a .sites)
+          ((rw (c .before .before .before .before .before .before .before .enum-told2 .given .1) at (r .ensures .1)) (bitsOf (a .sites) gs (lettersBy (a .sites) f g)) 0 (s .pre .1 .1 .1 .1 .1 _) (reads-x (s .pre .0 .valid) (s .pre .1 .1 .1 .0) f g (a .order) (now (a .x)) x))
+          (reads-z (s .pre .0 .valid) (s .pre .1 .1 .1 .0) f g (a .order) (now (a .z)) z)),
+    )
 
 pub refine-planes-spec : {M : Type 1} → statement M
 refine-planes-spec =
