@@ -4,6 +4,8 @@
 // phase table is its two lists.
 // A call returns 0 for an answer, else the number of the rule that the input breaks; what goes with either goes through `&mut`. What it hands back
 // beside a refusal is what the call that it passes on hands back there, and 0 for a number.
+#![tactic(auto)]
+
 pub mod groups;
 pub mod orbits;
 pub mod projections;

@@ -17,7 +17,7 @@ use pauli_word::WORD_BYTES;
 use rotation::planes;
 
 // The least word of an orbit, the smallest index that reaches it, and the step: the indices that fix the word are its multiples.
-#[derive(Drop)]
+#[derive(Clone, Copy)]
 pub struct LeastTurn {
     pub word: [u8; WORD_BYTES],
     pub index: usize,

@@ -1,5 +1,7 @@
 // The turns of a word inside its blocks that give the least word, found by scans for the least rotation, and the least word by them. Whoever calls a
 // function here owes its `requires`.
+#![tactic(auto)]
+
 pub mod least;
 pub mod refine;
 pub mod scan;
@@ -10,7 +12,7 @@ ghost use Rattle.packed.specs.Packed.{letters_at};
 ghost use Rattle.cyclic.specs.Cyclic.{Turns};
 
 // Turns: by start, and by every step after it.
-#[derive(Drop)]
+#[derive(Clone, Copy)]
 pub struct Turn {
     pub start: usize,
     pub step: usize,

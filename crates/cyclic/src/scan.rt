@@ -10,7 +10,7 @@ use packed::WORD_BITS;
 use pauli_word::Ordering;
 
 // Two places of a ring of symbols, and how far their rotations are known to agree.
-#[derive(Drop)]
+#[derive(Clone, Copy)]
 pub struct Scan {
     pub i: usize,
     pub j: usize,

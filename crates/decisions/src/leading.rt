@@ -65,7 +65,7 @@ pub fn size_by(order: usize, count: usize) -> usize
 }
 
 // Where a traversal of the indices stands: the sum of an index with another, and the first digits of the index and of the sum.
-#[derive(Drop)]
+#[derive(Clone, Copy)]
 pub struct Stand {
     pub sum: usize,
     pub low: usize,

@@ -5,7 +5,7 @@ ghost use Rattle.decisions.specs.Placements.{index_in, size_in};
 use pauli_word::WORD_BYTES;
 
 // What modes make of a word, by numbers.
-#[derive(Drop)]
+#[derive(Clone, Copy)]
 pub enum Placement {
     // They keep it: the index that leads from the least word to the word, and the orbit size.
     Kept(usize, usize),
@@ -36,7 +36,7 @@ impl Placement {
 }
 
 // The least word beside it; zeros where the word is dropped.
-#[derive(Drop)]
+#[derive(Clone, Copy)]
 pub struct Placed {
     pub answer: Placement,
     pub word: [u8; WORD_BYTES],

@@ -23,7 +23,7 @@ use permutation::MAX_GENERATORS;
 use rotation::planes::MASK_WORDS;
 
 // What an index does to a word under modes.
-#[derive(Drop)]
+#[derive(Clone, Copy)]
 pub enum Test {
     // It reaches another word.
     Moves,

@@ -10,7 +10,7 @@ ghost use Rattle.elements.specs.Letters.{codes};
 use pauli_word::{PLANE_BYTES, WORD_BYTES};
 
 // One byte of each plane.
-#[derive(Drop)]
+#[derive(Clone, Copy)]
 pub struct PlaneBytes {
     pub x: u8,
     pub z: u8,

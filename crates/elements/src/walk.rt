@@ -11,7 +11,7 @@ use crate::letters;
 use pauli_word::{MAX_SITES, Ordering, WORD_BYTES};
 
 // The least word of an orbit, and the smallest index that reaches it.
-#[derive(Drop)]
+#[derive(Clone, Copy)]
 pub struct LeastWord {
     pub word: [u8; WORD_BYTES],
     pub index: usize,

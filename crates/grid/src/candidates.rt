@@ -7,7 +7,7 @@ ghost use Rattle.grid.specs.Stages.{AloneIn};
 use packed::WORD_BITS;
 
 // What a round of striking out comes to.
-#[derive(Drop)]
+#[derive(Clone, Copy)]
 pub enum Round {
     // One is left, and it is this one.
     Alone(usize),

@@ -12,7 +12,7 @@ use crate::refine;
 use crate::refine::{PATIENCE, Stage};
 
 // The candidates that are left, and where refining stops.
-#[derive(Drop)]
+#[derive(Clone, Copy)]
 pub struct Stopped {
     pub left: u64,
     pub stage: Stage,

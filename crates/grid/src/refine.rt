@@ -16,7 +16,7 @@ use packed::PLANE_WORDS;
 pub const PATIENCE: usize = 16;
 
 // Where refining stops.
-#[derive(Drop)]
+#[derive(Clone, Copy)]
 pub enum Stage {
     // One candidate is left, and it is this one.
     Alone(usize),

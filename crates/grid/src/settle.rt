@@ -16,7 +16,7 @@ use packed::{PLANE_WORDS, WORD_BITS};
 use pauli_word::Ordering;
 
 // What the candidates weighed so far say of the next ones: one that gives the best word, and an index that fixes the word.
-#[derive(Drop)]
+#[derive(Clone, Copy)]
 pub struct Known {
     pub lead: usize,
     pub shift: usize,

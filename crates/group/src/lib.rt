@@ -4,6 +4,8 @@
 //
 // No call here asks anything of its caller: bad input is refused by number, lent lists are then as they were, and what comes back beside
 // a refusal passes for nothing.
+#![tactic(auto)]
+
 mod index;
 pub mod inner;
 pub mod lent;
@@ -20,7 +22,7 @@ use permutation::{MAX_GENERATORS, TARGET_PLACES};
 
 // A group by its generators: generator g's targets stand at MAX_SITES * g, 16 bits each, unused places are 0. Each call that takes one tests it
 // first (14). The value is large: `lent` has each call for a group whose parts are lent.
-#[derive(Drop)]
+#[derive(Clone, Copy)]
 pub struct Group {
     pub sites: usize,
     pub generators: usize,
@@ -29,7 +31,7 @@ pub struct Group {
 }
 
 // The group stands beside the answer; beside a refusal stands a value that every call refuses.
-#[derive(Drop)]
+#[derive(Clone, Copy)]
 pub struct Made {
     pub answer: Verdict,
     pub group: Group,

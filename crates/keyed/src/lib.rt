@@ -1,1 +1,3 @@
 // Definitions and laws alone: rows folded by their keys. No code.
+
+#![tactic(auto)]

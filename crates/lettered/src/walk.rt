@@ -15,7 +15,7 @@ use elements::letters;
 use pauli_word::{MAX_SITES, Ordering, WORD_BYTES};
 
 // The least word of an orbit, the smallest index that reaches it, and how many indices do.
-#[derive(Drop)]
+#[derive(Clone, Copy)]
 pub struct LeastLetters {
     pub word: [u8; WORD_BYTES],
     pub index: usize,
@@ -23,7 +23,7 @@ pub struct LeastLetters {
 }
 
 // The smallest index that reaches the least word so far, and how many do.
-#[derive(Drop)]
+#[derive(Clone, Copy)]
 pub struct Lead {
     pub index: usize,
     pub ties: usize,

@@ -2,6 +2,8 @@
 // equal ones add.
 //
 // The call here asks nothing of its caller: bad input is refused by number, and the lent lists are then as they were; beside 25 they are zero.
+#![tactic(auto)]
+
 mod checks;
 pub mod lent;
 mod rows;

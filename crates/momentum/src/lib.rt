@@ -3,6 +3,8 @@
 //
 // No call here asks anything of its caller: bad input is refused by number, lent lists are then as they were, and what comes back beside
 // a refusal passes for nothing.
+#![tactic(auto)]
+
 mod calls;
 pub mod lent;
 mod rows;
@@ -21,7 +23,7 @@ use outcome::{Number, Refusal, Verdict};
 use pauli_word::WORD_BYTES;
 
 // What modes make of a word.
-#[derive(Drop)]
+#[derive(Clone, Copy)]
 pub enum Sector {
     // They keep it; its orbit has this many different words.
     Kept(usize),
@@ -31,7 +33,7 @@ pub enum Sector {
 }
 
 // The least word beside a kept answer; zeros beside another.
-#[derive(Drop)]
+#[derive(Clone, Copy)]
 pub struct InSector {
     pub answer: Sector,
     pub word: [u8; WORD_BYTES],

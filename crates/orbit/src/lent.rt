@@ -16,7 +16,7 @@ use pauli_word::WORD_BYTES;
 use permutation::{MAX_GENERATORS, MAX_ORDER, TARGET_PLACES};
 
 // A walk whose group is lent, at its beginning: the word that the first step gives, and the index of that step.
-#[derive(Drop)]
+#[derive(Clone, Copy)]
 pub struct Beginning {
     pub answer: Verdict,
     pub at: [u8; WORD_BYTES],

@@ -2,6 +2,8 @@
 //
 // No call here asks anything of its caller: bad input is refused by number, lent lists are then as they were, and what comes back beside
 // a refusal passes for nothing.
+#![tactic(auto)]
+
 mod calls;
 pub mod inner;
 pub mod lent;
@@ -22,41 +24,41 @@ use outcome::{Number, Refusal, Verdict};
 use pauli_word::WORD_BYTES;
 
 // The least word beside its answer; zeros beside a refusal.
-#[derive(Drop)]
+#[derive(Clone, Copy)]
 pub struct Canonical {
     pub answer: Verdict,
     pub word: [u8; WORD_BYTES],
 }
 
 // The least word beside the index that leads from it to the word; zeros beside a refusal.
-#[derive(Drop)]
+#[derive(Clone, Copy)]
 pub struct CanonicalIndex {
     pub answer: Number,
     pub word: [u8; WORD_BYTES],
 }
 
 // The word that an index makes, beside its answer; zeros beside a refusal.
-#[derive(Drop)]
+#[derive(Clone, Copy)]
 pub struct WordAtIndex {
     pub answer: Verdict,
     pub word: [u8; WORD_BYTES],
 }
 
 // A walk over a word's orbit: the word that the next step gives, and that step's index. After the last entry the index is the order.
-#[derive(Drop)]
+#[derive(Clone, Copy)]
 pub struct Walk {
     pub group: Group,
     pub word: [u8; WORD_BYTES],
     pub index: usize,
 }
 
-#[derive(Drop)]
+#[derive(Clone, Copy)]
 pub struct Begun {
     pub answer: Verdict,
     pub walk: Walk,
 }
 
-#[derive(Drop)]
+#[derive(Clone, Copy)]
 pub enum Step {
     // An entry, by its index; its word stands beside it.
     Entry(usize),
@@ -65,7 +67,7 @@ pub enum Step {
     Refused(Refusal),
 }
 
-#[derive(Drop)]
+#[derive(Clone, Copy)]
 pub struct Stepped {
     pub answer: Step,
     pub word: [u8; WORD_BYTES],

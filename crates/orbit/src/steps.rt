@@ -12,7 +12,7 @@ use pauli_word::WORD_BYTES;
 use permutation::{MAX_GENERATORS, MAX_ORDER, TARGET_PLACES};
 
 // A step of a walk whose group is lent: the answer, the entry's word, and the word and the index of the walk after it.
-#[derive(Drop)]
+#[derive(Clone, Copy)]
 pub struct Moved {
     pub answer: Step,
     pub word: [u8; WORD_BYTES],

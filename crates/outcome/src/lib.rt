@@ -1,10 +1,12 @@
 // What a call comes to: its answer, or a refusal by the number of the first rule broken. Each rule that a call can be refused by is a case of
 // `Refusal`, whatever the call, and `rule_number` gives its number.
+#![tactic(auto)]
+
 ghost use Rattle.std.specs.Prelude.{◌≡◌};
 ghost use Rattle.outcome.specs.Outcome.{rule_number};
 
 // Why a call is refused, in the order of the rules' numbers.
-#[derive(Drop)]
+#[derive(Clone, Copy)]
 pub enum Refusal {
     // 1: a group or a word of more sites than there may be.
     TooManySites,
@@ -85,14 +87,14 @@ pub enum Refusal {
 }
 
 // What checks come to, and a call whose answer stands beside it or in a lent list.
-#[derive(Drop)]
+#[derive(Clone, Copy)]
 pub enum Verdict {
     Accepted,
     Refused(Refusal),
 }
 
 // What a call comes to that answers with a number.
-#[derive(Drop)]
+#[derive(Clone, Copy)]
 pub enum Number {
     Value(usize),
     Refused(Refusal),

@@ -1,4 +1,6 @@
 // Planes as machine words: packed from bytes and unpacked, compared, and rotated inside blocks by masks.
+#![tactic(auto)]
+
 pub mod shift;
 pub mod words;
 

@@ -13,7 +13,7 @@ use ways::way;
 use ways::way::Way;
 
 // A part: how many generators and sites it has, its order, and the way that it takes.
-#[derive(Drop)]
+#[derive(Clone, Copy)]
 pub struct Part {
     pub generators: usize,
     pub sites: usize,

@@ -20,7 +20,7 @@ use grid::refine::Stage;
 use packed::PLANE_WORDS;
 
 // Which indices fix a word, as far as a path tells.
-#[derive(Drop)]
+#[derive(Clone, Copy)]
 pub enum Fixing {
     // 0 alone.
     Free,
@@ -33,7 +33,7 @@ pub enum Fixing {
 }
 
 // The index that leads from the least word of an orbit back to the word, and which indices fix the word.
-#[derive(Drop)]
+#[derive(Clone, Copy)]
 pub struct Led {
     pub index: usize,
     pub fixing: Fixing,

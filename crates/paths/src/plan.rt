@@ -9,7 +9,7 @@ ghost use Rattle.paths.specs.Paths.{Taken, words_of};
 use pauli_word::MAX_SITES;
 
 // A path.
-#[derive(Drop)]
+#[derive(Clone, Copy)]
 pub enum Path {
     // By refinement, on a grid; a set of candidates has this many machine words.
     Grid(usize),

@@ -9,7 +9,7 @@ use crate::{MAX_SITES, OLD_SITES, OLD_WORD_BYTES, Ordering, PLANE_BYTES, WORD_BY
 use outcome::{Refusal, Verdict};
 
 // The two bits of a site.
-#[derive(Drop)]
+#[derive(Clone, Copy)]
 pub struct Site {
     pub x: bool,
     pub z: bool,

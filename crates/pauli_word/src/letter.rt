@@ -5,7 +5,7 @@ ghost use Rattle.pauli_word.specs.Text.{glyph};
 ghost use Rattle.pauli_word.specs.Calls.{letter_bits};
 
 // What a byte of a text word writes.
-#[derive(Drop)]
+#[derive(Clone, Copy)]
 pub enum LetterBits {
     // A letter, by its X bit and its Z bit.
     Bits(bool, bool),

@@ -5,6 +5,8 @@
 // OLD_SITES sites; the bytes that a plane lacks are 0. A word is handed back in full.
 //
 // No call here asks anything of its caller: bad input is refused by number, and nothing else is answered with it.
+#![tactic(auto)]
+
 mod calls;
 pub mod inner;
 mod letter;
@@ -34,21 +36,21 @@ pub const OLD_SITES: usize = 8 * OLD_PLANE_BYTES;
 pub const OLD_WORD_BYTES: usize = 2 * OLD_PLANE_BYTES;
 
 // A word read from text: the site count beside the word, or why it is none, beside zeros.
-#[derive(Drop)]
+#[derive(Clone, Copy)]
 pub struct TextWord {
     pub answer: Number,
     pub word: [u8; WORD_BYTES],
 }
 
 // A word written as text: the length beside the text, or why it is refused, beside zeros.
-#[derive(Drop)]
+#[derive(Clone, Copy)]
 pub struct WordText {
     pub answer: Number,
     pub text: [u8; MAX_SITES],
 }
 
 // How the first of two words stands to the second.
-#[derive(Drop)]
+#[derive(Clone, Copy)]
 pub enum Ordering {
     Less,
     Same,
@@ -56,7 +58,7 @@ pub enum Ordering {
 }
 
 // What comparing two words comes to.
-#[derive(Drop)]
+#[derive(Clone, Copy)]
 pub enum Comparison {
     Order(Ordering),
     Refused(Refusal),

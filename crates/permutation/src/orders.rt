@@ -13,7 +13,7 @@ use outcome::{Number, Refusal};
 use pauli_word::MAX_SITES;
 
 // The shortest and the longest of cycle lengths.
-#[derive(Drop)]
+#[derive(Clone, Copy)]
 pub struct Span {
     pub shortest: usize,
     pub longest: usize,

@@ -10,7 +10,7 @@ use text::read::Signed;
 use text::{names, read};
 
 // A line read as an entry.
-#[derive(Drop)]
+#[derive(Clone, Copy)]
 pub enum Entry {
     // The cosine and the sine.
     Numbers(i64, i64),

@@ -2,6 +2,8 @@
 // a turn in units of 2^-30.
 //
 // The call here asks nothing of its caller. A file that is refused hands back the constant table.
+#![tactic(auto)]
+
 pub mod answer;
 mod file_lines;
 
@@ -20,7 +22,7 @@ use phases::{PHASES, PhaseTable};
 pub const MAX_FILE: usize = 65536;
 
 // What reading a file comes to, and the table: the file's, or the constant one beside a refusal.
-#[derive(Drop)]
+#[derive(Clone, Copy)]
 pub struct TableRead {
     pub answer: Verdict,
     pub table: PhaseTable,

@@ -1,5 +1,7 @@
 // The phases of a turn in 720 steps, as whole numbers: cosine and sine of each step in units of 2^-30, rounded to the nearest whole number; and
 // the test of a table of any origin.
+#![tactic(auto)]
+
 mod entries;
 mod integers;
 mod numbers;
@@ -22,7 +24,7 @@ pub const UNIT: i64 = 1073741824;
 pub const SLACK: i64 = 2147483648;
 
 // Entry j of the two lists is the phase of j steps: its cosine and its sine, in units of 2^-30.
-#[derive(Drop)]
+#[derive(Clone, Copy)]
 pub struct PhaseTable {
     pub cosines: [i64; PHASES],
     pub sines: [i64; PHASES],

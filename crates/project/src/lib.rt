@@ -2,6 +2,8 @@
 // coefficient is turned by its phase, and the coefficients of equal words add. Sums are whole numbers, exactly.
 //
 // The call here asks nothing of its caller: bad input is refused by number, and the lent lists are then as they were.
+#![tactic(auto)]
+
 mod checks;
 mod folds;
 pub mod lent;
@@ -19,7 +21,7 @@ use phases::PhaseTable;
 pub const MAX_COEFFICIENT: i64 = 1048576;
 
 // What projecting a sum comes to.
-#[derive(Drop)]
+#[derive(Clone, Copy)]
 pub enum Projection {
     // How many rows have a kept orbit, and how many a dropped one.
     Rows(usize, usize),

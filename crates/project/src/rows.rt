@@ -19,7 +19,7 @@ use phases::{PHASES, PhaseTable};
 use row_lists::MAX_ROWS;
 
 // A row turned: whether its orbit is kept, and then its representative and what it adds along the cosine and the sine.
-#[derive(Drop)]
+#[derive(Clone, Copy)]
 pub struct Turned {
     pub kept: bool,
     pub word: [u8; WORD_BYTES],

@@ -14,7 +14,7 @@ use packed::PLANE_WORDS;
 use pauli_word::WORD_BYTES;
 
 // The least word of an orbit, the smallest index that reaches it, and how many indices do.
-#[derive(Drop)]
+#[derive(Clone, Copy)]
 pub struct Least {
     pub word: [u8; WORD_BYTES],
     pub index: usize,

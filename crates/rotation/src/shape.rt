@@ -7,7 +7,7 @@ ghost use Rattle.rotation.specs.Rotation.{rotation, Rotates, Shapes};
 use pauli_word::MAX_SITES;
 
 // A shift by a stride inside blocks of the stride and a rest; rest 0 where there is none.
-#[derive(Drop)]
+#[derive(Clone, Copy)]
 pub struct Shape {
     pub stride: usize,
     pub rest: usize,

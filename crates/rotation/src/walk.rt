@@ -12,7 +12,7 @@ use crate::planes;
 use pauli_word::Ordering;
 
 // The smallest index that reaches the least word so far, and how many indices so far reach it.
-#[derive(Drop)]
+#[derive(Clone, Copy)]
 pub struct Lead {
     pub index: usize,
     pub ties: usize,

@@ -1,5 +1,7 @@
 // Words in one list, row by row. What is checked of the lists of a sum whatever its contents are; and rows put into their places where they
 // stand, with zeros after the last. For the crates above: whoever calls a function here owes its `requires`.
+#![tactic(auto)]
+
 pub mod checks;
 pub mod exchange;
 pub mod places;

@@ -11,7 +11,7 @@ ghost use Rattle.row_words.specs.Held.{slot_found, Places};
 use pauli_word::{Ordering, WORD_BYTES};
 
 // A place among rows in rising order.
-#[derive(Drop)]
+#[derive(Clone, Copy)]
 pub enum Slot {
     // The word stands there.
     Found(usize),

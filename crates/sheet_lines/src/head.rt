@@ -13,7 +13,7 @@ use text::names;
 use text::names::Names;
 
 // What the checks of the three lines come to; the group, how many modes are used, and where the value lines begin.
-#[derive(Drop)]
+#[derive(Clone, Copy)]
 pub struct Head {
     pub answer: LineVerdict,
     pub group: Group,

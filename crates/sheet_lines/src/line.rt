@@ -11,7 +11,7 @@ use outcome::{Number, Refusal, Verdict};
 use text::read::{Fields, Mode};
 
 // The shape of a lattice.
-#[derive(Drop)]
+#[derive(Clone, Copy)]
 pub enum Kind {
     Chain,
     Ladder,
@@ -21,7 +21,7 @@ pub enum Kind {
 }
 
 // The shape of a line with its group, or the rule that the line breaks.
-#[derive(Drop)]
+#[derive(Clone, Copy)]
 pub struct Shape {
     pub answer: Verdict,
     pub kind: Kind,

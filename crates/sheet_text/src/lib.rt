@@ -2,6 +2,8 @@
 // then a line for each word with its modes; the table has a row for each of those, or one line that says which rule a line breaks.
 //
 // The call asks nothing of its caller. A list that is too short is refused and stays as it was.
+#![tactic(auto)]
+
 mod body;
 
 ghost use Rattle.std.specs.Prelude.{◌≡◌, length, ◌<◌};
@@ -21,7 +23,7 @@ pub const MAX_SHEET: usize = 65536;
 pub const MAX_TABLE: usize = 4 * MAX_SHEET + 64;
 
 // What printing a sheet comes to.
-#[derive(Drop)]
+#[derive(Clone, Copy)]
 pub enum Printed {
     // A table of this length stands at the front of the list.
     Table(usize),
@@ -51,7 +53,7 @@ pub fn sheet_text(input: &[u8], list: &mut [u8]) -> Printed
 }
 
 // What the checks of a sheet come to, and the length of what it prints.
-#[derive(Drop)]
+#[derive(Clone, Copy)]
 struct Written {
     answer: LineVerdict,
     length: usize,

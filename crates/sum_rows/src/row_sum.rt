@@ -4,7 +4,7 @@ ghost use Rattle.row_lists.specs.Rows.{max_rows};
 ghost use Rattle.sum_rows.specs.Sums.{finite, add_row};
 
 // What a word's rows come to: the running sum of their coefficients, and how many they are.
-#[derive(Drop)]
+#[derive(Clone, Copy)]
 pub struct RowSum {
     pub coefficient: f64,
     pub rows: u32,

@@ -5,7 +5,7 @@ ghost use Rattle.text.specs.Names.{names_read};
 use crate::read;
 
 // The first line of a text, looked at for names.
-#[derive(Drop)]
+#[derive(Clone, Copy)]
 pub enum Names {
     // It is these names, and ends at this place.
     End(usize),

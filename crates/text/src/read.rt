@@ -11,21 +11,21 @@ pub const CAP: u64 = 4294967296;
 pub const MODE_BOUND: i64 = 2147483648;
 
 // A text read as a signed number, no further from 0 than the cap.
-#[derive(Drop)]
+#[derive(Clone, Copy)]
 pub enum Signed {
     Value(i64),
     Other,
 }
 
 // A text read as a mode.
-#[derive(Drop)]
+#[derive(Clone, Copy)]
 pub enum Mode {
     Value(i32),
     Other,
 }
 
 // A field of a line.
-#[derive(Drop)]
+#[derive(Clone, Copy)]
 pub enum Field {
     // A space ends it, at this place.
     Ends(usize),
@@ -35,7 +35,7 @@ pub enum Field {
 }
 
 // The fields of a line.
-#[derive(Drop)]
+#[derive(Clone, Copy)]
 pub enum Fields {
     // Four, none of them empty, by where the first three end.
     Four(usize, usize, usize),

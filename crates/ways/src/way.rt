@@ -16,7 +16,7 @@ use paths::plan::Path;
 use pauli_word::MAX_SITES;
 
 // A way.
-#[derive(Drop)]
+#[derive(Clone, Copy)]
 pub enum Way {
     // The path of the group as it stands.
     Stands(Path),
