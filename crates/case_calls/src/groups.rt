@@ -7,6 +7,7 @@ use group::{Group, Made};
 use lines::{answers, lists};
 use pauli_word::MAX_SITES;
 use permutation::{MAX_GENERATORS, TARGET_PLACES};
+use std::alloc::AllocError;
 
 // The most entries of a generator list, and the most orders.
 const LIST_ROOM: usize = 2 * TARGET_PLACES;
@@ -14,10 +15,10 @@ const LIST_ROOM: usize = 2 * TARGET_PLACES;
 const ORDER_ROOM: usize = 4 * MAX_GENERATORS;
 
 // The group handed back, also beside a refusal.
-pub fn made(made: Made) -> Group {
+pub fn made(out: &mut Vec<u8>, made: Made) -> Result<Group, AllocError> {
     let answer = made.answer;
-    answers::verdict(answer, b"accepted");
-    made.group
+    answers::verdict(out, answer, b"accepted")?;
+    Ok(made.group)
 }
 
 pub fn lattice(kind: usize, args: Args) -> Made {
@@ -33,104 +34,134 @@ pub fn lattice(kind: usize, args: Args) -> Made {
 }
 
 // ` N t t .. / o o ..`: a site count, a generator list and orders. The group before stays in force where the line has another form.
-pub fn read(before: Group, rest: &[u8]) -> Group {
+pub fn read(out: &mut Vec<u8>, before: Group, rest: &[u8]) -> Result<Group, AllocError> {
     let bar = text::read::find(rest, b'/');
     if bar < rest.len() {
         if 1 < bar {
-            return of_parts(before, &rest[0..bar - 1], &rest[bar + 1..]);
+            return of_parts(out, before, &rest[0..bar - 1], &rest[bar + 1..]);
         }
     }
-    other(before)
+    other(out, before)
 }
 
-fn other(before: Group) -> Group {
-    lines::byte(b'?');
-    before
+fn other(out: &mut Vec<u8>, before: Group) -> Result<Group, AllocError> {
+    lines::byte(out, b'?')?;
+    Ok(before)
 }
 
-fn of_parts(before: Group, targets: &[u8], orders: &[u8]) -> Group {
+fn of_parts(
+    out: &mut Vec<u8>,
+    before: Group,
+    targets: &[u8],
+    orders: &[u8],
+) -> Result<Group, AllocError> {
     if targets.len() == 0 {
-        return other(before);
+        return other(out, before);
     }
     let end = fields::field_end(targets, 0);
     let Value::Number(sites) = fields::number(fields::field(targets, 0, end)) else {
-        return other(before);
+        return other(out, before);
     };
-    of_list(before, sites as usize, &targets[end..], orders)
+    of_list(out, before, sites as usize, &targets[end..], orders)
 }
 
-fn of_list(before: Group, sites: usize, targets: &[u8], orders: &[u8]) -> Group {
+fn of_list(
+    out: &mut Vec<u8>,
+    before: Group,
+    sites: usize,
+    targets: &[u8],
+    orders: &[u8],
+) -> Result<Group, AllocError> {
     let mut list = [0u32; LIST_ROOM];
     let Count::Of(k) = fields::digits(targets, &mut list) else {
-        return other(before);
+        return other(out, before);
     };
     if k <= LIST_ROOM {
-        return with_orders(before, sites, &list[0..k], orders);
+        return with_orders(out, before, sites, &list[0..k], orders);
     }
-    before
+    Ok(before)
 }
 
-fn with_orders(before: Group, sites: usize, list: &[u32], text: &[u8]) -> Group {
+fn with_orders(
+    out: &mut Vec<u8>,
+    before: Group,
+    sites: usize,
+    list: &[u32],
+    text: &[u8],
+) -> Result<Group, AllocError> {
     let mut orders = [0u32; ORDER_ROOM];
     let Count::Of(k) = fields::digits(text, &mut orders) else {
-        return other(before);
+        return other(out, before);
     };
     if k <= ORDER_ROOM {
-        return made(group::try_from_generators(sites, list, &orders[0..k]));
+        return made(out, group::try_from_generators(sites, list, &orders[0..k]));
     }
-    before
+    Ok(before)
 }
 
 // What the calls on a group answer, and the group itself.
-pub fn answer(g: Group, kind: usize, rest: &[u8], index: usize) {
+pub fn answer(
+    out: &mut Vec<u8>,
+    g: Group,
+    kind: usize,
+    rest: &[u8],
+    index: usize,
+) -> Result<(), AllocError> {
     match kind {
-        ORDER => answers::number(group::order(g)),
-        MODULUS => answers::number(group::phase_modulus(g)),
-        INVERT => answers::number(group::invert_index(g, index)),
-        INDEX => index_of(g, rest),
-        _ => targets(g),
+        ORDER => answers::number(out, group::order(g)),
+        MODULUS => answers::number(out, group::phase_modulus(g)),
+        INVERT => answers::number(out, group::invert_index(g, index)),
+        INDEX => index_of(out, g, rest),
+        _ => targets(out, g),
     }
 }
 
 // ` d d ..`.
-fn index_of(g: Group, rest: &[u8]) {
+fn index_of(out: &mut Vec<u8>, g: Group, rest: &[u8]) -> Result<(), AllocError> {
     let mut digits = [0u32; MODE_ROOM];
     let Count::Of(k) = fields::digits(rest, &mut digits) else {
-        lines::byte(b'?');
-        return;
+        return lines::byte(out, b'?');
     };
     if k <= MODE_ROOM {
-        answers::number(group::index_from_counter(g, &digits[0..k]));
+        answers::number(out, group::index_from_counter(g, &digits[0..k]))?;
     }
+    Ok(())
 }
 
 // Where each generator sends the sites, of a value that has places for them.
-fn targets(g: Group) {
+fn targets(out: &mut Vec<u8>, g: Group) -> Result<(), AllocError> {
     let generators = g.generators;
     let sites = g.sites;
     let list = g.targets;
     if MAX_GENERATORS < generators || MAX_SITES < sites {
-        lines::byte(b'?');
+        lines::byte(out, b'?')
     } else {
-        sends(&list, generators, sites);
+        sends(out, &list, generators, sites)
     }
 }
 
-fn sends(targets: &[u16], generators: usize, sites: usize) {
+fn sends(
+    out: &mut Vec<u8>,
+    targets: &[u16],
+    generators: usize,
+    sites: usize,
+) -> Result<(), AllocError> {
     let mut g = 0;
     while g < generators {
         if 0 < g {
-            lines::byte(b' ');
+            lines::byte(out, b' ')?;
         }
-        lines::byte(b'/');
-        sent(targets, g, sites);
+        lines::byte(out, b'/')?;
+        sent(out, targets, g, sites)?;
         g += 1;
     }
+    Ok(())
 }
 
 // The targets of generator g.
-fn sent(targets: &[u16], g: usize, sites: usize) {
+fn sent(out: &mut Vec<u8>, targets: &[u16], g: usize, sites: usize) -> Result<(), AllocError> {
     if g < MAX_GENERATORS {
-        lists::targets_from(targets, MAX_SITES * g, sites);
+        lists::targets_from(out, targets, MAX_SITES * g, sites)?;
     }
+    Ok(())
 }

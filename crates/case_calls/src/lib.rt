@@ -1,4 +1,6 @@
 // The calls on groups and words that lines of cases name. What puts something in force hands it back; what asks prints its answer.
+#![tactic(auto)]
+
 mod counters;
 pub mod groups;
 pub mod orbits;
@@ -10,9 +12,11 @@ use case_text::kinds::{
     CANONICALIZE, COMPARE_TEXT, NUMERATOR, ORBIT_LIST, ORDER, TABLE, TARGETS, TEXT,
 };
 use group::Group;
+use std::alloc::AllocError;
 
 // The answer to a line that asks, with a group, a word of n sites and modes in force.
 pub fn answer(
+    out: &mut Vec<u8>,
     g: Group,
     n: usize,
     word: &[u8],
@@ -20,13 +24,13 @@ pub fn answer(
     kind: usize,
     rest: &[u8],
     args: Args,
-) {
+) -> Result<(), AllocError> {
     let a = args.list[0];
     match kind {
-        ORDER..=TARGETS => groups::answer(g, kind, rest, a),
-        TEXT..=COMPARE_TEXT => words::answer(n, word, kind, rest),
-        CANONICALIZE..=ORBIT_LIST => orbits::answer(g, n, word, kind, a),
-        NUMERATOR..=TABLE => sectors::answer(g, modes, kind, rest, a),
-        _ => counters::answer(g, n, word, modes, kind, args),
+        ORDER..=TARGETS => groups::answer(out, g, kind, rest, a),
+        TEXT..=COMPARE_TEXT => words::answer(out, n, word, kind, rest),
+        CANONICALIZE..=ORBIT_LIST => orbits::answer(out, g, n, word, kind, a),
+        NUMERATOR..=TABLE => sectors::answer(out, g, modes, kind, rest, a),
+        _ => counters::answer(out, g, n, word, modes, kind, args),
     }
 }

@@ -5,6 +5,7 @@ use case_text::kinds::NUMERATOR;
 use group::Group;
 use lines::{answers, lists};
 use permutation::MAX_GENERATORS;
+use std::alloc::AllocError;
 
 // The most places of a list of numerators.
 const TABLE_ROOM: usize = 4096;
@@ -13,23 +14,23 @@ const TABLE_ROOM: usize = 4096;
 pub const MODE_ROOM: usize = 2 * MAX_GENERATORS;
 
 // The first `count` of these.
-#[derive(Drop)]
+#[derive(Clone, Copy)]
 pub struct Modes {
     pub list: [i32; MODE_ROOM],
     pub count: usize,
 }
 
 // ` k k ..`. The modes before stay in force where the line has another form.
-pub fn put(before: Modes, rest: &[u8]) -> Modes {
+pub fn put(out: &mut Vec<u8>, before: Modes, rest: &[u8]) -> Result<Modes, AllocError> {
     let mut list = [0i32; MODE_ROOM];
     match fields::modes(rest, &mut list) {
         Count::Of(count) => {
-            lines::text(b"set");
-            Modes { list, count }
+            lines::text(out, b"set")?;
+            Ok(Modes { list, count })
         }
         Count::Other => {
-            lines::byte(b'?');
-            before
+            lines::byte(out, b'?')?;
+            Ok(before)
         }
     }
 }
@@ -43,36 +44,48 @@ pub fn front(modes: &[i32], k: usize) -> &[i32] {
 }
 
 // What the calls with modes and no word answer.
-pub fn answer(g: Group, modes: &[i32], kind: usize, rest: &[u8], k: usize) {
+pub fn answer(
+    out: &mut Vec<u8>,
+    g: Group,
+    modes: &[i32],
+    kind: usize,
+    rest: &[u8],
+    k: usize,
+) -> Result<(), AllocError> {
     match kind {
-        NUMERATOR => numerator(g, modes, rest),
-        _ => table(g, modes, k),
+        NUMERATOR => numerator(out, g, modes, rest),
+        _ => table(out, g, modes, k),
     }
 }
 
 // ` d d ..`.
-fn numerator(g: Group, modes: &[i32], rest: &[u8]) {
+fn numerator(out: &mut Vec<u8>, g: Group, modes: &[i32], rest: &[u8]) -> Result<(), AllocError> {
     let mut digits = [0u32; MODE_ROOM];
     let Count::Of(k) = fields::digits(rest, &mut digits) else {
-        lines::byte(b'?');
-        return;
+        return lines::byte(out, b'?');
     };
     if k <= MODE_ROOM {
-        answers::number(momentum::character_numerator(g, modes, &digits[0..k]));
+        answers::number(out, momentum::character_numerator(g, modes, &digits[0..k]))?;
     }
+    Ok(())
 }
 
-fn table(g: Group, modes: &[i32], k: usize) {
+fn table(out: &mut Vec<u8>, g: Group, modes: &[i32], k: usize) -> Result<(), AllocError> {
     let mut list = [9usize; TABLE_ROOM];
     if k <= TABLE_ROOM {
-        table_in(g, modes, &mut list[0..k]);
+        table_in(out, g, modes, &mut list[0..k])
     } else {
-        lines::byte(b'?');
+        lines::byte(out, b'?')
     }
 }
 
-fn table_in(g: Group, modes: &[i32], list: &mut [usize]) {
-    answers::verdict(momentum::character_table(g, modes, list), b"done");
-    lines::byte(b':');
-    lists::numbers(list);
+fn table_in(
+    out: &mut Vec<u8>,
+    g: Group,
+    modes: &[i32],
+    list: &mut [usize],
+) -> Result<(), AllocError> {
+    answers::verdict(out, momentum::character_table(g, modes, list), b"done")?;
+    lines::byte(out, b':')?;
+    lists::numbers(out, list)
 }

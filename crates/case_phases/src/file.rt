@@ -8,32 +8,33 @@ use case_text::texts;
 use lines::answers;
 use phase_file::MAX_FILE;
 use phases::PhaseTable;
+use std::alloc::AllocError;
 
 // The most bytes of a file, and one.
 const FILE_ROOM: usize = 2 * MAX_FILE;
 
 // The table that the text of a file hands back; the one before where the text is too long.
-pub fn read(before: PhaseTable, text: &[u8]) -> PhaseTable {
+pub fn read(out: &mut Vec<u8>, before: PhaseTable, text: &[u8]) -> Result<PhaseTable, AllocError> {
     let mut file = [0u8; FILE_ROOM];
     let length = expand(text, &mut file);
     if length < FILE_ROOM {
-        return told(&file[0..length]);
+        return told(out, &file[0..length]);
     }
-    lines::byte(b'?');
-    before
+    lines::byte(out, b'?')?;
+    Ok(before)
 }
 
-fn told(file: &[u8]) -> PhaseTable {
+fn told(out: &mut Vec<u8>, file: &[u8]) -> Result<PhaseTable, AllocError> {
     let read = phase_file::read_phase_table(file);
     let answer = read.answer;
     let table = read.table;
-    answers::verdict(answer, b"accepted");
+    answers::verdict(out, answer, b"accepted")?;
     if is_constant(table) {
-        lines::text(b", constant");
+        lines::text(out, b", constant")?;
     } else {
-        lines::text(b", another");
+        lines::text(out, b", another")?;
     }
-    table
+    Ok(table)
 }
 
 // Whether all numbers are those of the constant table.

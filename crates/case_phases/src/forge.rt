@@ -5,7 +5,7 @@ use case_text::{fields, texts, wholes};
 use phases::{PHASES, PhaseTable};
 
 // A place of a table, and the number that is written there.
-#[derive(Drop)]
+#[derive(Clone, Copy)]
 pub enum Forged {
     At(usize, i64),
     Other,

@@ -10,7 +10,7 @@ const LINES: usize = PHASES + 1;
 const HIGHEST: u64 = 1000000000;
 
 // A piece of a text.
-#[derive(Drop)]
+#[derive(Clone, Copy)]
 pub enum Part {
     // `[A:B]`.
     Lines(u64, u64),

@@ -3,43 +3,51 @@ use case_text::sizes::{ROW_ROOM, Sizes};
 use lines::{answers, lists};
 use pauli_word::WORD_BYTES;
 use project::Projection;
+use std::alloc::AllocError;
 
 pub fn told(
+    out: &mut Vec<u8>,
     answer: Projection,
     sizes: Sizes,
     representatives: &[u8],
     cosines: &[i64],
     sines: &[i64],
-) {
+) -> Result<(), AllocError> {
     match answer {
         Projection::Refused(why) => {
-            answers::refused(why);
-            after(representatives, cosines, sines);
+            answers::refused(out, why)?;
+            after(out, representatives, cosines, sines)
         }
         Projection::Rows(kept, dropped) => {
-            counts(kept, dropped);
+            counts(out, kept, dropped)?;
             if sizes.to == 0 {
-                table(sizes.n, kept, representatives, cosines, sines);
+                table(out, sizes.n, kept, representatives, cosines, sines)
             } else {
                 rows(
+                    out,
                     sizes.n,
                     sizes.from,
                     sizes.to,
                     representatives,
                     cosines,
                     sines,
-                );
+                )
             }
         }
     }
 }
 
 // What the lists hold after a refusal.
-fn after(representatives: &[u8], cosines: &[i64], sines: &[i64]) {
+fn after(
+    out: &mut Vec<u8>,
+    representatives: &[u8],
+    cosines: &[i64],
+    sines: &[i64],
+) -> Result<(), AllocError> {
     if all_are(representatives, cosines, sines, 9) {
-        lines::text(b", as they were");
+        lines::text(out, b", as they were")
     } else {
-        lines::text(b", changed");
+        lines::text(out, b", changed")
     }
 }
 
@@ -53,20 +61,28 @@ fn all_are(representatives: &[u8], cosines: &[i64], sines: &[i64], v: u8) -> boo
     false
 }
 
-fn counts(kept: usize, dropped: usize) {
-    lines::number(kept);
-    lines::text(b" kept, ");
-    lines::number(dropped);
-    lines::text(b" dropped:");
+fn counts(out: &mut Vec<u8>, kept: usize, dropped: usize) -> Result<(), AllocError> {
+    lines::number(out, kept)?;
+    lines::text(out, b" kept, ")?;
+    lines::number(out, dropped)?;
+    lines::text(out, b" dropped:")
 }
 
 // The rows of the table, and whether anything but zeros stands after them.
-fn table(n: usize, kept: usize, representatives: &[u8], cosines: &[i64], sines: &[i64]) {
+fn table(
+    out: &mut Vec<u8>,
+    n: usize,
+    kept: usize,
+    representatives: &[u8],
+    cosines: &[i64],
+    sines: &[i64],
+) -> Result<(), AllocError> {
     let end = table_end(kept, representatives);
-    rows(n, 0, end, representatives, cosines, sines);
+    rows(out, n, 0, end, representatives, cosines, sines)?;
     if !zeros_from(end, representatives, cosines, sines) {
-        lines::text(b" and more after them");
+        lines::text(out, b" and more after them")?;
     }
+    Ok(())
 }
 
 // How many rows the table has: one if a row is kept, and then all whose words are not zeros.
@@ -115,32 +131,43 @@ fn zeros_from(k: usize, representatives: &[u8], cosines: &[i64], sines: &[i64]) 
     all_are(&representatives[at..], &cosines[k..], &sines[k..], 0)
 }
 
-fn rows(n: usize, from: usize, to: usize, representatives: &[u8], cosines: &[i64], sines: &[i64]) {
+fn rows(
+    out: &mut Vec<u8>,
+    n: usize,
+    from: usize,
+    to: usize,
+    representatives: &[u8],
+    cosines: &[i64],
+    sines: &[i64],
+) -> Result<(), AllocError> {
     let mut k = from;
     while k < to {
-        word(n, k, representatives);
-        parts(k, cosines, sines);
+        word(out, n, k, representatives)?;
+        parts(out, k, cosines, sines)?;
         k += 1;
     }
+    Ok(())
 }
 
-fn word(n: usize, k: usize, representatives: &[u8]) {
+fn word(out: &mut Vec<u8>, n: usize, k: usize, representatives: &[u8]) -> Result<(), AllocError> {
     if k < ROW_ROOM {
         let at = WORD_BYTES * k;
         let end = at + WORD_BYTES;
         if end <= representatives.len() {
-            lines::byte(b' ');
-            lines::spell(n, &representatives[at..end]);
+            lines::byte(out, b' ')?;
+            lines::spell(out, n, &representatives[at..end])?;
         }
     }
+    Ok(())
 }
 
 // The two sums of a row.
-fn parts(k: usize, cosines: &[i64], sines: &[i64]) {
+fn parts(out: &mut Vec<u8>, k: usize, cosines: &[i64], sines: &[i64]) -> Result<(), AllocError> {
     if k < cosines.len() && k < sines.len() {
-        lines::byte(b' ');
-        lines::signed(cosines[k]);
-        lines::byte(b' ');
-        lines::signed(sines[k]);
+        lines::byte(out, b' ')?;
+        lines::signed(out, cosines[k])?;
+        lines::byte(out, b' ')?;
+        lines::signed(out, sines[k])?;
     }
+    Ok(())
 }

@@ -4,26 +4,40 @@ use group::Group;
 use lines::{answers, lists};
 use outcome::Number;
 use pauli_word::WORD_BYTES;
+use std::alloc::AllocError;
 
 // Folds a sum in the fronts of lists.
-pub fn fold(g: Group, sizes: Sizes, words: &[u8], coefficients: &[f64]) {
+pub fn fold(
+    out: &mut Vec<u8>,
+    g: Group,
+    sizes: Sizes,
+    words: &[u8],
+    coefficients: &[f64],
+) -> Result<(), AllocError> {
     let bytes = sizes.words;
     let rows = sizes.rows;
     if words.len() < bytes {
-        return lines::byte(b'?');
+        return lines::byte(out, b'?');
     }
     if coefficients.len() < rows {
-        return lines::byte(b'?');
+        return lines::byte(out, b'?');
     }
-    fold_into(g, sizes, &words[0..bytes], &coefficients[0..rows]);
+    fold_into(out, g, sizes, &words[0..bytes], &coefficients[0..rows])
 }
 
 // The output lists are all nines before.
-fn fold_into(g: Group, sizes: Sizes, words: &[u8], coefficients: &[f64]) {
+fn fold_into(
+    out: &mut Vec<u8>,
+    g: Group,
+    sizes: Sizes,
+    words: &[u8],
+    coefficients: &[f64],
+) -> Result<(), AllocError> {
     let mut representatives = [9u8; ROW_BYTES];
     let mut sums = [9.0f64; ROW_ROOM];
     let mut counts = [9u32; ROW_ROOM];
     fold_in(
+        out,
         g,
         sizes,
         words,
@@ -31,10 +45,11 @@ fn fold_into(g: Group, sizes: Sizes, words: &[u8], coefficients: &[f64]) {
         &mut representatives,
         &mut sums,
         &mut counts,
-    );
+    )
 }
 
 fn fold_in(
+    out: &mut Vec<u8>,
     g: Group,
     sizes: Sizes,
     words: &[u8],
@@ -42,20 +57,21 @@ fn fold_in(
     representatives: &mut [u8],
     sums: &mut [f64],
     counts: &mut [u32],
-) {
+) -> Result<(), AllocError> {
     let bytes = sizes.representatives;
     let values = sizes.first;
     let numbers = sizes.second;
     if representatives.len() < bytes {
-        return lines::byte(b'?');
+        return lines::byte(out, b'?');
     }
     if sums.len() < values {
-        return lines::byte(b'?');
+        return lines::byte(out, b'?');
     }
     if counts.len() < numbers {
-        return lines::byte(b'?');
+        return lines::byte(out, b'?');
     }
     call(
+        out,
         g,
         sizes,
         words,
@@ -63,10 +79,11 @@ fn fold_in(
         &mut representatives[0..bytes],
         &mut sums[0..values],
         &mut counts[0..numbers],
-    );
+    )
 }
 
 fn call(
+    out: &mut Vec<u8>,
     g: Group,
     sizes: Sizes,
     words: &[u8],
@@ -74,7 +91,7 @@ fn call(
     representatives: &mut [u8],
     sums: &mut [f64],
     counts: &mut [u32],
-) {
+) -> Result<(), AllocError> {
     let answer = merge::canonicalize_pauli_sum(
         g,
         words,
@@ -83,35 +100,48 @@ fn call(
         sums,
         counts,
     );
-    told(answer, sizes, representatives, sums, counts);
+    told(out, answer, sizes, representatives, sums, counts)
 }
 
-fn told(answer: Number, sizes: Sizes, representatives: &[u8], sums: &[f64], counts: &[u32]) {
-    answers::number(answer);
+fn told(
+    out: &mut Vec<u8>,
+    answer: Number,
+    sizes: Sizes,
+    representatives: &[u8],
+    sums: &[f64],
+    counts: &[u32],
+) -> Result<(), AllocError> {
+    answers::number(out, answer)?;
     match answer {
-        Number::Refused(_) => after(representatives, sums, counts),
+        Number::Refused(_) => after(out, representatives, sums, counts),
         Number::Value(k) => {
-            lines::text(b" rows:");
+            lines::text(out, b" rows:")?;
             rows(
+                out,
                 sizes.n,
                 sizes.from,
                 end(k, sizes.to),
                 representatives,
                 sums,
                 counts,
-            );
+            )
         }
     }
 }
 
 // What the lists hold after a refusal.
-fn after(representatives: &[u8], sums: &[f64], counts: &[u32]) {
+fn after(
+    out: &mut Vec<u8>,
+    representatives: &[u8],
+    sums: &[f64],
+    counts: &[u32],
+) -> Result<(), AllocError> {
     if all_are(representatives, sums, counts, 9, 9.0) {
-        lines::text(b", as they were");
+        lines::text(out, b", as they were")
     } else if all_are(representatives, sums, counts, 0, 0.0) {
-        lines::text(b", zeros");
+        lines::text(out, b", zeros")
     } else {
-        lines::text(b", changed");
+        lines::text(out, b", changed")
     }
 }
 
@@ -129,32 +159,43 @@ fn end(rows: usize, to: usize) -> usize {
     if to == 0 { rows } else { to }
 }
 
-fn rows(n: usize, from: usize, to: usize, representatives: &[u8], sums: &[f64], counts: &[u32]) {
+fn rows(
+    out: &mut Vec<u8>,
+    n: usize,
+    from: usize,
+    to: usize,
+    representatives: &[u8],
+    sums: &[f64],
+    counts: &[u32],
+) -> Result<(), AllocError> {
     let mut k = from;
     while k < to {
-        word(n, k, representatives);
-        number(k, sums, counts);
+        word(out, n, k, representatives)?;
+        number(out, k, sums, counts)?;
         k += 1;
     }
+    Ok(())
 }
 
-fn word(n: usize, k: usize, representatives: &[u8]) {
+fn word(out: &mut Vec<u8>, n: usize, k: usize, representatives: &[u8]) -> Result<(), AllocError> {
     if k < ROW_ROOM {
         let at = WORD_BYTES * k;
         let end = at + WORD_BYTES;
         if end <= representatives.len() {
-            lines::byte(b' ');
-            lines::spell(n, &representatives[at..end]);
+            lines::byte(out, b' ')?;
+            lines::spell(out, n, &representatives[at..end])?;
         }
     }
+    Ok(())
 }
 
 // The sum and the count of a row.
-fn number(k: usize, sums: &[f64], counts: &[u32]) {
+fn number(out: &mut Vec<u8>, k: usize, sums: &[f64], counts: &[u32]) -> Result<(), AllocError> {
     if k < sums.len() && k < counts.len() {
-        lines::byte(b' ');
-        lines::float(sums[k]);
-        lines::byte(b' ');
-        lines::number32(counts[k]);
+        lines::byte(out, b' ')?;
+        lines::float(out, sums[k])?;
+        lines::byte(out, b' ')?;
+        lines::number32(out, counts[k])?;
     }
+    Ok(())
 }

@@ -8,21 +8,21 @@ use text::read::Mode;
 pub const ARGS: usize = 5;
 
 // How many entries were read into a list, or that the text has another form or more of them than the list has places.
-#[derive(Drop)]
+#[derive(Clone, Copy)]
 pub enum Count {
     Of(usize),
     Other,
 }
 
 // A text read as a number of 64 bits.
-#[derive(Drop)]
+#[derive(Clone, Copy)]
 pub enum Value {
     Number(u64),
     Other,
 }
 
 // The numbers after a name: how many there are, and ARGS places for them. Where there is something else, more are counted than there are places.
-#[derive(Drop)]
+#[derive(Clone, Copy)]
 pub struct Args {
     pub count: usize,
     pub list: [usize; ARGS],

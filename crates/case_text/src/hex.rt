@@ -19,7 +19,7 @@ const EXPONENT: u64 = 0x0010_0000_0000_0000;
 const NOT_FINITE: u64 = 0x7ff;
 
 // A text read as a float.
-#[derive(Drop)]
+#[derive(Clone, Copy)]
 pub enum Float {
     Value(f64),
     Other,

@@ -10,7 +10,7 @@ pub const ROW_BYTES: usize = ROW_ROOM * WORD_BYTES;
 
 // The lengths of the lists: words and coefficients, and of the output words and the two other lists. And the output rows that are printed, from one
 // to before another, with n letters a word. To 0: the rows that there are.
-#[derive(Drop)]
+#[derive(Clone, Copy)]
 pub struct Sizes {
     pub n: usize,
     pub words: usize,

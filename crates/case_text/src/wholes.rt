@@ -6,7 +6,7 @@ use crate::fields::Value;
 const LARGEST: u64 = 0x7fff_ffff_ffff_ffff;
 
 // A text read as a whole number.
-#[derive(Drop)]
+#[derive(Clone, Copy)]
 pub enum Whole {
     Value(i64),
     Other,

@@ -8,7 +8,7 @@ const ENDS: usize = 2;
 
 // The lengths of the lists: bytes of the words and of the representatives, and places of the indices and of the sizes. And the output rows that
 // are printed, from one to before another, with n letters a word. To 0: all rows.
-#[derive(Drop)]
+#[derive(Clone, Copy)]
 pub struct Lengths {
     pub n: usize,
     pub words: usize,

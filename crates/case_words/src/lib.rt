@@ -1,4 +1,6 @@
 // The calls on rows of words, as lines of cases name them: in lists of given lengths, and what they come to.
+#![tactic(auto)]
+
 mod lengths;
 mod print;
 
@@ -7,9 +9,11 @@ use case_text::fields::Args;
 use case_text::kinds::SECTOR_WORDS;
 use case_text::sizes::{ROW_BYTES, ROW_ROOM};
 use group::Group;
+use std::alloc::AllocError;
 
 // Answers a line on the first `count` rows, or on lists of the lengths that it gives: their least words, or what modes make of them.
 pub fn answer(
+    out: &mut Vec<u8>,
     g: Group,
     modes: &[i32],
     n: usize,
@@ -17,21 +21,36 @@ pub fn answer(
     kind: usize,
     args: Args,
     words: &[u8],
-) {
+) -> Result<(), AllocError> {
     let lengths = lengths::of(n, count, args);
     let bytes = lengths.words;
     if words.len() < bytes {
-        return lines::byte(b'?');
+        return lines::byte(out, b'?');
     }
-    answer_into(g, modes, SECTOR_WORDS <= kind, lengths, &words[0..bytes]);
+    answer_into(
+        out,
+        g,
+        modes,
+        SECTOR_WORDS <= kind,
+        lengths,
+        &words[0..bytes],
+    )
 }
 
 // The output lists are all nines before.
-fn answer_into(g: Group, modes: &[i32], sector: bool, lengths: Lengths, words: &[u8]) {
+fn answer_into(
+    out: &mut Vec<u8>,
+    g: Group,
+    modes: &[i32],
+    sector: bool,
+    lengths: Lengths,
+    words: &[u8],
+) -> Result<(), AllocError> {
     let mut representatives = [9u8; ROW_BYTES];
     let mut indices = [9usize; ROW_ROOM];
     let mut sizes = [9usize; ROW_ROOM];
     answer_in(
+        out,
         g,
         modes,
         sector,
@@ -40,10 +59,11 @@ fn answer_into(g: Group, modes: &[i32], sector: bool, lengths: Lengths, words: &
         &mut representatives,
         &mut indices,
         &mut sizes,
-    );
+    )
 }
 
 fn answer_in(
+    out: &mut Vec<u8>,
     g: Group,
     modes: &[i32],
     sector: bool,
@@ -52,20 +72,21 @@ fn answer_in(
     representatives: &mut [u8],
     indices: &mut [usize],
     sizes: &mut [usize],
-) {
+) -> Result<(), AllocError> {
     let bytes = lengths.representatives;
     let first = lengths.indices;
     let second = lengths.sizes;
     if representatives.len() < bytes {
-        return lines::byte(b'?');
+        return lines::byte(out, b'?');
     }
     if indices.len() < first {
-        return lines::byte(b'?');
+        return lines::byte(out, b'?');
     }
     if sizes.len() < second {
-        return lines::byte(b'?');
+        return lines::byte(out, b'?');
     }
     call(
+        out,
         g,
         modes,
         sector,
@@ -74,11 +95,12 @@ fn answer_in(
         &mut representatives[0..bytes],
         &mut indices[0..first],
         &mut sizes[0..second],
-    );
+    )
 }
 
 // With modes if `sector` says so; without them the sizes stay as they are.
 fn call(
+    out: &mut Vec<u8>,
     g: Group,
     modes: &[i32],
     sector: bool,
@@ -87,12 +109,12 @@ fn call(
     representatives: &mut [u8],
     indices: &mut [usize],
     sizes: &mut [usize],
-) {
+) -> Result<(), AllocError> {
     if sector {
         let answer = momentum::sector_words(g, modes, words, representatives, indices, sizes);
-        print::told(answer, lengths, representatives, indices, sizes);
+        print::told(out, answer, lengths, representatives, indices, sizes)
     } else {
         let answer = orbit::canonicalize_words(g, words, representatives, indices);
-        print::told(answer, lengths, representatives, indices, &sizes[0..0]);
+        print::told(out, answer, lengths, representatives, indices, &sizes[0..0])
     }
 }

@@ -4,41 +4,49 @@ use case_text::sizes::ROW_ROOM;
 use lines::{answers, lists};
 use outcome::Verdict;
 use pauli_word::WORD_BYTES;
+use std::alloc::AllocError;
 
 // Where the call has no sizes there are none.
 pub fn told(
+    out: &mut Vec<u8>,
     answer: Verdict,
     lengths: Lengths,
     representatives: &[u8],
     indices: &[usize],
     sizes: &[usize],
-) {
+) -> Result<(), AllocError> {
     match answer {
         Verdict::Refused(why) => {
-            answers::refused(why);
-            after(representatives, indices, sizes);
+            answers::refused(out, why)?;
+            after(out, representatives, indices, sizes)
         }
         Verdict::Accepted => {
-            lines::number(indices.len());
-            lines::text(b" rows:");
+            lines::number(out, indices.len())?;
+            lines::text(out, b" rows:")?;
             rows(
+                out,
                 lengths.n,
                 lengths.from,
                 end(indices.len(), lengths.to),
                 representatives,
                 indices,
                 sizes,
-            );
+            )
         }
     }
 }
 
 // What the lists hold after a refusal.
-fn after(representatives: &[u8], indices: &[usize], sizes: &[usize]) {
+fn after(
+    out: &mut Vec<u8>,
+    representatives: &[u8],
+    indices: &[usize],
+    sizes: &[usize],
+) -> Result<(), AllocError> {
     if all_nines(representatives, indices, sizes) {
-        lines::text(b", as they were");
+        lines::text(out, b", as they were")
     } else {
-        lines::text(b", changed");
+        lines::text(out, b", changed")
     }
 }
 
@@ -56,24 +64,33 @@ fn end(rows: usize, to: usize) -> usize {
 }
 
 fn rows(
+    out: &mut Vec<u8>,
     n: usize,
     from: usize,
     to: usize,
     representatives: &[u8],
     indices: &[usize],
     sizes: &[usize],
-) {
+) -> Result<(), AllocError> {
     let mut k = from;
     while k < to {
-        row(n, k, representatives, indices, sizes);
+        row(out, n, k, representatives, indices, sizes)?;
         k += 1;
     }
+    Ok(())
 }
 
-fn row(n: usize, k: usize, representatives: &[u8], indices: &[usize], sizes: &[usize]) {
-    word(n, k, representatives, has_zero(k, sizes));
-    number(k, indices);
-    number(k, sizes);
+fn row(
+    out: &mut Vec<u8>,
+    n: usize,
+    k: usize,
+    representatives: &[u8],
+    indices: &[usize],
+    sizes: &[usize],
+) -> Result<(), AllocError> {
+    word(out, n, k, representatives, has_zero(k, sizes))?;
+    number(out, k, indices)?;
+    number(out, k, sizes)
 }
 
 // Whether place k of a list holds 0.
@@ -84,30 +101,38 @@ fn has_zero(k: usize, list: &[usize]) -> bool {
     false
 }
 
-fn word(n: usize, k: usize, representatives: &[u8], dropped: bool) {
+fn word(
+    out: &mut Vec<u8>,
+    n: usize,
+    k: usize,
+    representatives: &[u8],
+    dropped: bool,
+) -> Result<(), AllocError> {
     if k < ROW_ROOM {
         let at = WORD_BYTES * k;
         let end = at + WORD_BYTES;
         if end <= representatives.len() {
-            lines::byte(b' ');
-            letters(n, &representatives[at..end], dropped);
+            lines::byte(out, b' ')?;
+            letters(out, n, &representatives[at..end], dropped)?;
         }
     }
+    Ok(())
 }
 
 // The letters of a word, or of a dropped row a dash for zeros.
-fn letters(n: usize, word: &[u8], dropped: bool) {
+fn letters(out: &mut Vec<u8>, n: usize, word: &[u8], dropped: bool) -> Result<(), AllocError> {
     if dropped && lists::bytes_are(word, 0) {
-        lines::byte(b'-');
+        lines::byte(out, b'-')
     } else {
-        lines::spell(n, word);
+        lines::spell(out, n, word)
     }
 }
 
 // The number in place k of a list, where it has one.
-fn number(k: usize, list: &[usize]) {
+fn number(out: &mut Vec<u8>, k: usize, list: &[usize]) -> Result<(), AllocError> {
     if k < list.len() {
-        lines::byte(b' ');
-        lines::number(list[k]);
+        lines::byte(out, b' ')?;
+        lines::number(out, list[k])?;
     }
+    Ok(())
 }

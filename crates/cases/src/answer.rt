@@ -7,23 +7,25 @@ use case_rows::{sheets, sums};
 use case_text::fields::Args;
 use case_text::{fields, kinds, texts};
 use group::Group;
+use std::alloc::AllocError;
 
 // Prints a line for a line.
 pub fn line(
+    out: &mut Vec<u8>,
     s: State,
     line: &[u8],
     words: &mut [u8],
     coefficients: &mut [f64],
     wholes: &mut [i64],
-) -> State {
+) -> Result<State, AllocError> {
     if is_comment(line) {
-        lines::text(line);
-        lines::byte(b'\n');
-        return s;
+        lines::text(out, line)?;
+        lines::byte(out, b'\n')?;
+        return Ok(s);
     }
-    let t = named(s, line, words, coefficients, wholes);
-    lines::byte(b'\n');
-    t
+    let t = named(out, s, line, words, coefficients, wholes)?;
+    lines::byte(out, b'\n')?;
+    Ok(t)
 }
 
 fn is_comment(line: &[u8]) -> bool {
@@ -35,120 +37,147 @@ fn is_comment(line: &[u8]) -> bool {
 
 // The first field is the line's name.
 fn named(
+    out: &mut Vec<u8>,
     s: State,
     line: &[u8],
     words: &mut [u8],
     coefficients: &mut [f64],
     wholes: &mut [i64],
-) -> State {
+) -> Result<State, AllocError> {
     let k = text::read::find(line, b' ');
     if k <= line.len() {
         let kind = kinds::of(&line[0..k]);
-        return of_kind(s, kind, &line[k..], words, coefficients, wholes);
+        return of_kind(out, s, kind, &line[k..], words, coefficients, wholes);
     }
-    s
+    Ok(s)
 }
 
 fn of_kind(
+    out: &mut Vec<u8>,
     s: State,
     kind: usize,
     rest: &[u8],
     words: &mut [u8],
     coefficients: &mut [f64],
     wholes: &mut [i64],
-) -> State {
+) -> Result<State, AllocError> {
     let args = fields::read_args(rest);
     if !kinds::has_form(kind, args.count) {
-        return s.other();
+        return s.other(out);
     }
     match kind {
-        kinds::GROUP..=kinds::NEXT => put(s, kind, rest, args),
+        kinds::GROUP..=kinds::NEXT => put(out, s, kind, rest, args),
         kinds::ORDER..=kinds::BESIDE => {
-            ask(s, kind, rest, args);
-            s
+            ask(out, s, kind, rest, args)?;
+            Ok(s)
         }
         kinds::SHEET..=kinds::SHEET_IN => {
-            sheets::answer(kind, rest);
-            s
+            sheets::answer(out, kind, rest)?;
+            Ok(s)
         }
         kinds::CLEAR..=kinds::OLD_ROWS => {
-            put_rows(s, kind, rest, args, words, coefficients, wholes)
+            put_rows(out, s, kind, rest, args, words, coefficients, wholes)
         }
         kinds::SUM..=kinds::PROJECT_AT => {
-            summed(s, kind, args, words, coefficients, wholes);
-            s
+            summed(out, s, kind, args, words, coefficients, wholes)?;
+            Ok(s)
         }
-        kinds::PHASE_TABLE..=kinds::PHASE => phased(s, kind, rest, args),
+        kinds::PHASE_TABLE..=kinds::PHASE => phased(out, s, kind, rest, args),
         kinds::WORDS..=kinds::SECTOR_WORDS_AT => {
-            answer_rows(s, kind, args, words);
-            s
+            answer_rows(out, s, kind, args, words)?;
+            Ok(s)
         }
-        _ => s.other(),
+        _ => s.other(out),
     }
 }
 
 // The lines that put something in force.
-fn put(mut s: State, kind: usize, rest: &[u8], args: Args) -> State {
+fn put(
+    out: &mut Vec<u8>,
+    mut s: State,
+    kind: usize,
+    rest: &[u8],
+    args: Args,
+) -> Result<State, AllocError> {
     match kind {
-        kinds::SET => forge::set(s, rest),
+        kinds::SET => forge::set(out, s, rest),
         kinds::GROUP..=kinds::TORUS3 => {
-            let g = grouped(s.group, kind, rest, args);
+            let g = grouped(out, s.group, kind, rest, args)?;
             s.group = g;
-            s
+            Ok(s)
         }
         kinds::WORD..=kinds::OLD => {
-            let w = worded(s.word, kind, rest);
+            let w = worded(out, s.word, kind, rest)?;
             s.word = w;
-            s
+            Ok(s)
         }
         kinds::MODES => {
-            let m = sectors::put(s.modes, rest);
+            let m = sectors::put(out, s.modes, rest)?;
             s.modes = m;
-            s
+            Ok(s)
         }
-        _ => walked(s, kind, args.list[0]),
+        _ => walked(out, s, kind, args.list[0]),
     }
 }
 
-fn grouped(before: Group, kind: usize, rest: &[u8], args: Args) -> Group {
+fn grouped(
+    out: &mut Vec<u8>,
+    before: Group,
+    kind: usize,
+    rest: &[u8],
+    args: Args,
+) -> Result<Group, AllocError> {
     if kind == kinds::GROUP {
-        groups::read(before, rest)
+        groups::read(out, before, rest)
     } else {
-        groups::made(groups::lattice(kind, args))
+        groups::made(out, groups::lattice(kind, args))
     }
 }
 
-fn worded(before: Word, kind: usize, rest: &[u8]) -> Word {
+fn worded(out: &mut Vec<u8>, before: Word, kind: usize, rest: &[u8]) -> Result<Word, AllocError> {
     match kind {
-        kinds::WORD => words::read(rest),
-        kinds::BYTES => words::put(before, rest),
-        _ => words::old(before),
+        kinds::WORD => words::read(out, rest),
+        kinds::BYTES => words::put(out, before, rest),
+        _ => words::old(out, before),
     }
 }
 
-fn walked(mut s: State, kind: usize, count: usize) -> State {
+fn walked(out: &mut Vec<u8>, mut s: State, kind: usize, count: usize) -> Result<State, AllocError> {
     let bytes = s.word.bytes;
     let walk = if kind == kinds::ORBIT {
-        orbits::begin(s.group, s.word.n, texts::front(&bytes, s.word.length))
+        orbits::begin(out, s.group, s.word.n, texts::front(&bytes, s.word.length))?
     } else {
-        orbits::steps(s.walk, s.word.n, count)
+        orbits::steps(out, s.walk, s.word.n, count)?
     };
     s.walk = walk;
-    s
+    Ok(s)
 }
 
 // The lines on phase tables.
-fn phased(mut s: State, kind: usize, rest: &[u8], args: Args) -> State {
-    let t = case_phases::answer(s.phases, kind, rest, args);
+fn phased(
+    out: &mut Vec<u8>,
+    mut s: State,
+    kind: usize,
+    rest: &[u8],
+    args: Args,
+) -> Result<State, AllocError> {
+    let t = case_phases::answer(out, s.phases, kind, rest, args)?;
     s.phases = t;
-    s
+    Ok(s)
 }
 
 // The lines that ask.
-fn ask(s: State, kind: usize, rest: &[u8], args: Args) {
+fn ask(
+    out: &mut Vec<u8>,
+    s: State,
+    kind: usize,
+    rest: &[u8],
+    args: Args,
+) -> Result<(), AllocError> {
     let bytes = s.word.bytes;
     let modes = s.modes.list;
     case_calls::answer(
+        out,
         s.group,
         s.word.n,
         texts::front(&bytes, s.word.length),
@@ -156,11 +185,12 @@ fn ask(s: State, kind: usize, rest: &[u8], args: Args) {
         kind,
         rest,
         args,
-    );
+    )
 }
 
 // The lines that change the rows of a sum.
 fn put_rows(
+    out: &mut Vec<u8>,
     mut s: State,
     kind: usize,
     rest: &[u8],
@@ -168,9 +198,10 @@ fn put_rows(
     words: &mut [u8],
     coefficients: &mut [f64],
     wholes: &mut [i64],
-) -> State {
+) -> Result<State, AllocError> {
     let bytes = s.word.bytes;
     s.rows = sums::put(
+        out,
         s.rows,
         texts::front(&bytes, s.word.length),
         kind,
@@ -179,17 +210,26 @@ fn put_rows(
         words,
         coefficients,
         wholes,
-    );
-    s
+    )?;
+    Ok(s)
 }
 
 // The lines that fold or project them.
-fn summed(s: State, kind: usize, args: Args, words: &[u8], coefficients: &[f64], wholes: &[i64]) {
+fn summed(
+    out: &mut Vec<u8>,
+    s: State,
+    kind: usize,
+    args: Args,
+    words: &[u8],
+    coefficients: &[f64],
+    wholes: &[i64],
+) -> Result<(), AllocError> {
     if kind < kinds::PROJECT {
-        sums::fold(s.group, s.word.n, s.rows, args, words, coefficients);
+        sums::fold(out, s.group, s.word.n, s.rows, args, words, coefficients)
     } else {
         let modes = s.modes.list;
         case_projections::project(
+            out,
             s.phases,
             s.group,
             sectors::front(&modes, s.modes.count),
@@ -198,14 +238,21 @@ fn summed(s: State, kind: usize, args: Args, words: &[u8], coefficients: &[f64],
             args,
             words,
             wholes,
-        );
+        )
     }
 }
 
 // The lines that ask for the least words of the rows, or for what the modes make of them.
-fn answer_rows(s: State, kind: usize, args: Args, words: &[u8]) {
+fn answer_rows(
+    out: &mut Vec<u8>,
+    s: State,
+    kind: usize,
+    args: Args,
+    words: &[u8],
+) -> Result<(), AllocError> {
     let modes = s.modes.list;
     case_words::answer(
+        out,
         s.group,
         sectors::front(&modes, s.modes.count),
         s.word.n,
@@ -213,5 +260,5 @@ fn answer_rows(s: State, kind: usize, args: Args, words: &[u8]) {
         kind,
         args,
         words,
-    );
+    )
 }

@@ -7,6 +7,7 @@ use case_text::fields::Args;
 use case_text::{fields, kinds, texts};
 use group::Group;
 use permutation::{MAX_DECLARED, MAX_GENERATORS, TARGET_PLACES};
+use std::alloc::AllocError;
 
 // What is written, by the place of its name.
 const SITES: usize = 0;
@@ -33,28 +34,33 @@ const LARGEST: usize = MAX_DECLARED as usize;
 const LARGEST_TARGET: usize = 65535;
 
 // ` NAME V` or ` NAME I V`.
-pub fn set(s: State, rest: &[u8]) -> State {
+pub fn set(out: &mut Vec<u8>, s: State, rest: &[u8]) -> Result<State, AllocError> {
     let text = texts::after_space(rest);
     let k = text::read::find(text, b' ');
     if k < text.len() {
         let names = b" sites generators order target n length index cosine sine";
         let what = kinds::place(&text[0..k], names);
-        return named(s, what, &text[k..]);
+        return named(out, s, what, &text[k..]);
     }
-    s.other()
+    s.other(out)
 }
 
-fn named(s: State, what: usize, rest: &[u8]) -> State {
+fn named(out: &mut Vec<u8>, s: State, what: usize, rest: &[u8]) -> Result<State, AllocError> {
     match what {
-        COSINE | SINE => phase(s, what, forge::read(rest)),
-        _ => written(s, what, fields::read_args(rest)),
+        COSINE | SINE => phase(out, s, what, forge::read(rest)),
+        _ => written(out, s, what, fields::read_args(rest)),
     }
 }
 
 // A number of the phase table.
-fn phase(mut s: State, what: usize, number: Forged) -> State {
+fn phase(
+    out: &mut Vec<u8>,
+    mut s: State,
+    what: usize,
+    number: Forged,
+) -> Result<State, AllocError> {
     let Forged::At(j, v) = number else {
-        return s.other();
+        return s.other(out);
     };
     let t = if what == COSINE {
         forge::cosine(s.phases, j, v)
@@ -62,14 +68,14 @@ fn phase(mut s: State, what: usize, number: Forged) -> State {
         forge::sine(s.phases, j, v)
     };
     s.phases = t;
-    s.set()
+    s.set(out)
 }
 
-fn written(mut s: State, what: usize, args: Args) -> State {
+fn written(out: &mut Vec<u8>, mut s: State, what: usize, args: Args) -> Result<State, AllocError> {
     let a = args.list[0];
     let b = args.list[1];
     if !has_form(what, args.count, a, b) {
-        return s.other();
+        return s.other(out);
     }
     match what {
         N | LENGTH => {
@@ -82,7 +88,7 @@ fn written(mut s: State, what: usize, args: Args) -> State {
             s.group = g;
         }
     }
-    s.set()
+    s.set(out)
 }
 
 // Whether there are as many numbers as the name takes, and they have a place.

@@ -1,4 +1,4 @@
-// Cases: reads lines from standard input, makes the call that each names, and prints one line for each.
+// Cases: reads lines from an input, makes the call that each names, and prints one line for each.
 //
 // A line ends with byte 10, its fields are parted by one space, the first is its name. In force are a group, a word (a site count n and at most
 // WORD_ROOM bytes), at most MODE_ROOM modes, a walk, a phase table, and the rows of a sum, at most ROW_ROOM; all is empty and zero at first, and the
@@ -92,12 +92,18 @@
 // | any other                       | nothing                                                   | `?`                                                |
 //
 // A line too long, a last line without its end and an input that cannot be read print `?` too.
+#![tactic(auto)]
+
 mod answer;
 mod forge;
 mod input;
 mod state;
 
-// Answers each line of standard input.
-pub fn run() {
-    input::run();
+use std::alloc::Global;
+use std::io;
+use std::io::{Read, Write};
+
+// Answers each line of an input.
+pub fn run<R: Read, W: Write>(alloc: Global, input: &mut R, output: &mut W) -> io::Result<()> {
+    input::run(alloc, input, output)
 }

@@ -6,8 +6,9 @@ use orbit::Walk;
 use pauli_word::WORD_BYTES;
 use permutation::{MAX_GENERATORS, TARGET_PLACES};
 use phases::PhaseTable;
+use std::alloc::AllocError;
 
-#[derive(Drop)]
+#[derive(Clone, Copy)]
 pub struct State {
     pub group: Group,
     pub word: Word,
@@ -53,14 +54,14 @@ pub fn nothing() -> State {
 
 impl State {
     // The answer where something was put in force.
-    pub fn set(self) -> State {
-        lines::text(b"set");
-        self
+    pub fn set(self, out: &mut Vec<u8>) -> Result<State, AllocError> {
+        lines::text(out, b"set")?;
+        Ok(self)
     }
 
     // The answer to a line of another form.
-    pub fn other(self) -> State {
-        lines::byte(b'?');
-        self
+    pub fn other(self, out: &mut Vec<u8>) -> Result<State, AllocError> {
+        lines::byte(out, b'?')?;
+        Ok(self)
     }
 }

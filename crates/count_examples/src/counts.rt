@@ -1,62 +1,73 @@
 // Counts over all words of 2 and of 4 sites: how many representatives each mode list keeps, and how many mode lists keep a word.
-ghost use Rattle.std.specs.Prelude.{◌≤◌};
+ghost use Rattle.std.specs.Prelude.{◌≤◌, IfOk};
 
 use group::Group;
 use lines::lists;
 use momentum::Sector;
 use pauli_word::{Comparison, Ordering, PLANE_BYTES, WORD_BYTES};
+use std::alloc::AllocError;
 
 // The 16 words of a ring of 2.
-pub fn chain() {
-    let even = chain_at(0);
-    let odd = chain_at(1);
-    lines::text(b"chain 2, both modes: ");
-    pairs(even + odd, 16);
+pub fn chain(out: &mut Vec<u8>) -> Result<(), AllocError> {
+    let even = chain_at(out, 0)?;
+    let odd = chain_at(out, 1)?;
+    lines::text(out, b"chain 2, both modes: ")?;
+    pairs(out, even + odd, 16)
 }
 
-fn chain_at(k: i32) -> usize
-    ensures { result ≤ 16 }
+fn chain_at(out: &mut Vec<u8>, k: i32) -> Result<usize, AllocError>
+    ensures { IfOk result (λ k. k ≤ 16) }
 {
     let g = group::chain_1d(2).group;
-    representatives(b"chain 2", g, 2, 16, &[k])
+    representatives(out, b"chain 2", g, 2, 16, &[k])
 }
 
 // The 256 words of a torus of 2 by 2.
-pub fn torus() {
-    let a = torus_at(0, 0);
-    let b = torus_at(1, 0);
-    let c = torus_at(0, 1);
-    let d = torus_at(1, 1);
-    lines::text(b"torus 2 by 2, all four mode lists: ");
-    pairs(a + b + c + d, 256);
+pub fn torus(out: &mut Vec<u8>) -> Result<(), AllocError> {
+    let a = torus_at(out, 0, 0)?;
+    let b = torus_at(out, 1, 0)?;
+    let c = torus_at(out, 0, 1)?;
+    let d = torus_at(out, 1, 1)?;
+    lines::text(out, b"torus 2 by 2, all four mode lists: ")?;
+    pairs(out, a + b + c + d, 256)
 }
 
-fn torus_at(k: i32, l: i32) -> usize
-    ensures { result ≤ 256 }
+fn torus_at(out: &mut Vec<u8>, k: i32, l: i32) -> Result<usize, AllocError>
+    ensures { IfOk result (λ k. k ≤ 256) }
 {
     let g = group::torus_2d(2, 2).group;
-    representatives(b"torus 2 by 2", g, 4, 256, &[k, l])
+    representatives(out, b"torus 2 by 2", g, 4, 256, &[k, l])
 }
 
-fn pairs(count: usize, words: usize) {
-    lines::number(count);
-    lines::text(b" pairs of a mode list and a representative that it keeps, ");
-    lines::number(words);
-    lines::text(b" words\n");
+fn pairs(out: &mut Vec<u8>, count: usize, words: usize) -> Result<(), AllocError> {
+    lines::number(out, count)?;
+    lines::text(
+        out,
+        b" pairs of a mode list and a representative that it keeps, ",
+    )?;
+    lines::number(out, words)?;
+    lines::text(out, b" words\n")
 }
 
 // Counts the representatives that the modes keep, in a line.
-fn representatives(name: &[u8], g: Group, n: usize, words: usize, modes: &[i32]) -> usize
-    ensures { result ≤ words }
+fn representatives(
+    out: &mut Vec<u8>,
+    name: &[u8],
+    g: Group,
+    n: usize,
+    words: usize,
+    modes: &[i32],
+) -> Result<usize, AllocError>
+    ensures { IfOk result (λ k. k ≤ words) }
 {
     let count = kept(g, n, words, modes);
-    lines::text(name);
-    lines::text(b", modes");
-    lists::modes(modes);
-    lines::text(b": ");
-    lines::number(count);
-    lines::text(b" representatives kept\n");
-    count
+    lines::text(out, name)?;
+    lines::text(out, b", modes")?;
+    lists::modes(out, modes)?;
+    lines::text(out, b": ")?;
+    lines::number(out, count)?;
+    lines::text(out, b" representatives kept\n")?;
+    Ok(count)
 }
 
 // Over all words, by their numbers.
@@ -127,23 +138,23 @@ fn is_representative(g: Group, n: usize, word: &[u8]) -> bool {
 }
 
 // As many mode lists keep a word as its orbit has different words.
-pub fn lists() {
+pub fn lists(out: &mut Vec<u8>) -> Result<(), AllocError> {
     let torus = group::torus_2d(2, 2).group;
-    keeping(torus, b"XIII");
-    keeping(torus, b"XXII");
-    keeping(torus, b"YIIY");
-    keeping(torus, b"ZZZZ");
+    keeping(out, torus, b"XIII")?;
+    keeping(out, torus, b"XXII")?;
+    keeping(out, torus, b"YIIY")?;
+    keeping(out, torus, b"ZZZZ")
 }
 
-fn keeping(torus: Group, letters: &[u8]) {
+fn keeping(out: &mut Vec<u8>, torus: Group, letters: &[u8]) -> Result<(), AllocError> {
     let word = pauli_word::from_text(letters).word;
-    lines::text(b"torus 2 by 2, word ");
-    lines::text(letters);
-    lines::text(b": ");
-    lines::number(lists_keeping(torus, &word));
-    lines::text(b" of 4 mode lists keep it, orbit ");
-    lines::number(size(torus, 4, &word, &[0, 0]));
-    lines::text(b"\n");
+    lines::text(out, b"torus 2 by 2, word ")?;
+    lines::text(out, letters)?;
+    lines::text(out, b": ")?;
+    lines::number(out, lists_keeping(torus, &word))?;
+    lines::text(out, b" of 4 mode lists keep it, orbit ")?;
+    lines::number(out, size(torus, 4, &word, &[0, 0]))?;
+    lines::text(out, b"\n")
 }
 
 // Over all mode lists, by their numbers.

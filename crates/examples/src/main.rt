@@ -1,4 +1,8 @@
 // Words, groups, orbits, sectors and phases: answers the list of cases in `stdin` beside src/; the file `stdout` there is what it must print.
-fn main() {
-    cases::run();
+#![tactic(auto)]
+
+use std::io;
+
+fn main(rt: HostRuntime) -> io::Result<()> {
+    cases::run(rt.alloc(), &mut rt.stdin(), &mut rt.stdout())
 }

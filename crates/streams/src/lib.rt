@@ -1,42 +1,36 @@
-// Standard input and standard output, as programs use them: read to the end or to a list's, and written whole. A read or a write that fails is told
-// on standard error, in the program's words and with the system's reason.
-use libc::{STDIN_FILENO, STDOUT_FILENO};
+// Reading and writing as the programs do: to the input's end or a list's, and whole. A read or a write that fails is an error in the program's words, with
+// the system's reason.
+#![tactic(auto)]
 
-// What reading comes to.
-#[derive(Drop)]
-pub enum Input {
-    // The input ended after so many bytes, or goes on past a full list.
-    Bytes(usize),
-    Failed,
-}
+use anyhow::{Context, Result};
+use std::io::{Read, Write};
 
-// Reads into a list, to the input's end or the list's. `failure` is what is told of a failed read.
-pub fn read_input(list: &mut [u8], failure: &[u8]) -> Input {
+// Reads into a list, to the input's end or the list's: how many bytes. `failure` is what is told of a failed read.
+pub fn read_input<R: Read>(input: &mut R, list: &mut [u8], failure: &str) -> Result<usize> {
     let mut done = 0;
     while done < list.len() {
-        let got = libc::read(STDIN_FILENO, &mut list[done..]);
-        if got < 0 {
-            os::fail(failure);
-            return Input::Failed;
-        }
-        let more = io::count(got, &list[done..]);
+        let more = input.read(&mut list[done..]).context(failure)?;
         if more == 0 {
-            return Input::Bytes(done);
+            return Ok(done);
         }
         done += more;
     }
-    Input::Bytes(done)
+    Ok(done)
 }
 
 // Writes the first bytes of a list. `failure` is what is told of a failed write.
-pub fn write_front(list: &[u8], length: usize, failure: &[u8]) {
+pub fn write_front<W: Write>(
+    output: &mut W,
+    list: &[u8],
+    length: usize,
+    failure: &str,
+) -> Result<()> {
     if length <= list.len() {
-        write(&list[..length], failure);
+        return write(output, &list[..length], failure);
     }
+    Ok(())
 }
 
-fn write(text: &[u8], failure: &[u8]) {
-    if !io::write_all(STDOUT_FILENO, text) {
-        os::fail(failure);
-    }
+fn write<W: Write>(output: &mut W, text: &[u8], failure: &str) -> Result<()> {
+    output.write_all(text).context(failure)
 }
