@@ -100,6 +100,7 @@ lcm-positive {a} {b} p q = pos_of_dvd_of_pos (lcm_divides a b (a * b) (dvd-mul_r
 
 pub lcm_all_member : (a : ℕ) (xs : List ℕ) → Member a xs → a ∣ lcm_all xs
 unfolding lcm_all
+lcm_all_member a [] h = elim h [ ]
 lcm_all_member a (b ∷ xs) (inl e) = rw e (lcm-left b (lcm_all xs))
 lcm_all_member a (b ∷ xs) (inr h) = dvd_trans a (lcm_all_member a xs h) (lcm-right b (lcm_all xs))
 

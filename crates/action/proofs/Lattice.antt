@@ -264,7 +264,7 @@ module _ {n : ℕ} (some : 0 < n) where
   shifts-commute {t = t} x (b ∷ sides) rounds e g (inl i) = rw i (shift_commute x (axis-first t b sides rounds e))
   shifts-commute {t = t} x (b ∷ sides) rounds e g (inr m) =
       let y = axis-first t b sides rounds e in
-      shifts-commute (axis_within x (axis_last (stride-positive y) (side-positive y))) sides rounds (sides-behind t b sides rounds e) g m
+      shifts-commute {t = t * b} (axis_within x (axis_last (stride-positive y) (side-positive y))) sides rounds (sides-behind t b sides rounds e) g m
 
   -- each side is the exact order of its shift, and the shifts permute the sites and commute
   pub shifts_valid : (stride : ℕ) (sides : List ℕ) (rounds : ℕ) → stride * product sides * rounds ≡ n → Valid n (shifts n stride sides)

@@ -2,7 +2,7 @@
 -- What carries it: numbers put together by `or` are 0 exactly if each is.
 use Prim.Native.Nat.{ℕ, zero, suc, ◌+◌, ◌-◌, ◌≤◌, ◌<◌}
 use mathlib.Core.Path.{◌≡◌, refl, sym, ap, ap₂, ◌∙◌}
-use mathlib.Core.Bool.{true, ◌&&◌, and-eq-true_iff, and_assoc, and_true}
+use mathlib.Core.Bool.{true, ◌&&◌, and-eq-true_iff, and_assoc, and-true}
 use mathlib.Core.List.{List, [], ◌∷◌}
 use native.Mathlib.Nat.{sub-zero, zero-sub, suc-sub-suc}
 use native.Mathlib.Numerals.{add-one}
@@ -48,4 +48,4 @@ module _ (xs : List ℕ) (i : ℕ) (any : ℕ) where
 
   pub zeros-none : length xs ≤ i → (eqb any 0 && zeros (drop i xs)) ≡ eqb any 0
   unfolding every
-  zeros-none h = rw (drop_of_length-le xs h) (and_true (eqb any 0))
+  zeros-none h = rw (drop_of_length-le xs h) (and-true (eqb any 0))

@@ -2,7 +2,7 @@
 use Prim.Native.Nat.{ℕ, ◌+◌, ◌*◌, ◌%◌, ◌<◌, ◌≤◌}
 use mathlib.Core.Path.{◌≡◌, sym, ap, ap₂, ◌∙◌}
 use mathlib.Core.Logic.{⊎_elim}
-use mathlib.Core.Bool.{Bool, true, false, ◌&&◌, and_true, and_false}
+use mathlib.Core.Bool.{Bool, true, false, ◌&&◌, and-true, and-false}
 use mathlib.Core.List.{List}
 use native.Mathlib.Decide.{dec_le}
 use native.Mathlib.Omega.{arith}
@@ -61,7 +61,7 @@ block_word f base n i x y hx hy k h =
 module _ (f : ℕ → Bool) (base n : ℕ) (ws : List ℕ) (i : ℕ) (room : n ≤ word_bits * length ws) (h : length ws ≤ i) (has : Between (block_bits f base n) 0 i ws) where
   -- a block that is copied has the bits of the plane
   pub block-bits : (k : ℕ) → k < n → bit_of ws k ≡ f (base + k)
-  block-bits k l = has k (omega arith) (omega arith) ∙ ap (λ (t : Bool). f (base + k) && t) (lt-ltb k n l) ∙ and_true (f (base + k))
+  block-bits k l = has k (omega arith) (omega arith) ∙ ap (λ (t : Bool). f (base + k) && t) (lt-ltb k n l) ∙ and-true (f (base + k))
 
   -- and none past the block
   pub block-clear : Clear n ws
@@ -69,7 +69,7 @@ module _ (f : ℕ → Bool) (base n : ℕ) (ws : List ℕ) (i : ℕ) (room : n �
       read_all (block_bits f base n) ws i h (λ p g. none p (omega arith)) has q ∙ none q l
     where
       none : (p : ℕ) → n ≤ p → block_bits f base n p ≡ false
-      none p g = ap (λ (t : Bool). f (base + p) && t) (le-ltb p n g) ∙ and_false (f (base + p))
+      none p g = ap (λ (t : Bool). f (base + p) && t) (le-ltb p n g) ∙ and-false (f (base + p))
 
 -- ---- bits that are alike
 

@@ -4,7 +4,7 @@
 use Prim.Native.Nat.{ℕ, ◌+◌, ◌*◌, ◌/◌, ◌%◌, ◌<◌, ◌≤◌, min}
 use mathlib.Core.Path.{◌≡◌, refl, sym, ◌∙◌, ap, ap₂, subst}
 use mathlib.Core.Logic.{◌⊎◌, inl, inr, ◌↔◌}
-use mathlib.Core.Bool.{Bool, true, false, ◌||◌, ◌&&◌, not, or-true, or_false, true≢false, false≢true}
+use mathlib.Core.Bool.{Bool, true, false, ◌||◌, ◌&&◌, not, or-true, or-false, true≢false, false≢true}
 use mathlib.Core.List.{List}
 use native.Mathlib.Nat.{min-le_left, min-le_right, le-min}
 use native.Mathlib.Omega.{arith}
@@ -62,7 +62,7 @@ none_bit j = rw (le-ltb j 0 (omega arith))
 
 -- what is put into an empty set is there alone
 pub alone-bit : (a b : Bool) → b ≡ false → (a || b) ≡ a
-alone-bit a b e = ap (λ (c : Bool). a || c) e ∙ or_false a
+alone-bit a b e = ap (λ (c : Bool). a || c) e ∙ or-false a
 
 -- ---- one candidate more
 

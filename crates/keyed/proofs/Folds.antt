@@ -5,7 +5,7 @@ use native.Mathlib.Nat.{le_of_suc-le-suc, not-suc-le-zero}
 use native.Mathlib.Omega.{arith}
 use mathlib.Core.Path.{◌≡◌, refl, sym, ◌∙◌, ap}
 use mathlib.Core.Logic.{inl, inr}
-use mathlib.Core.Bool.{Bool, true, false, ◌&&◌, cond, false≢true, and_false, and-eq-true_iff}
+use mathlib.Core.Bool.{Bool, true, false, ◌&&◌, cond, false≢true, and-false, and-eq-true_iff}
 use mathlib.Core.List.{List, [], ◌∷◌, ◌++◌, map, append-nil}
 use lib.ListN.{length, get_or, take, drop, length-map}
 use lib.Seq.{append_snoc, split_at, take-suc, length-take-le, get_or_at}
@@ -43,7 +43,7 @@ module _ {A : Type 0} (p : A → Bool) where
 
   pub every-failing : (xs : List A) (a : A) (ys : List A) → p a ≡ false → every p (xs ++ (a ∷ ys)) ≡ false
   unfolding every
-  every-failing xs a ys e = every_append p xs (a ∷ ys) ∙ rw e (and_false (every p xs))
+  every-failing xs a ys e = every_append p xs (a ∷ ys) ∙ rw e (and-false (every p xs))
 
   pub first_failing-at :
       (xs : List A) (a : A) (ys : List A) → every p xs ≡ true → p a ≡ false

@@ -8,7 +8,7 @@ use Rattle.action.specs.Sector.{numerator}
 use Rattle.group.specs.declared.Group.{Group}
 use Rattle.group.specs.Value.{generators_of}
 use Rattle.orbit.specs.Calls.{word_call_checks}
-use Rattle.group.specs.Calls.{value_checks, list_length, counter_length}
+use Rattle.group.specs.Calls.{value_checks, list_length}
 use Rattle.momentum.specs.declared.Sector.{Sector}
 use Rattle.momentum.specs.declared.Sector.TheVariants as Sector
 use Rattle.pauli_word.specs.Bytes.{word_in}
@@ -17,6 +17,10 @@ use Rattle.decisions.specs.Decisions.{numerators, Decision, kept, dropped, Row, 
 -- 18: mode count is not the generator count
 abbrev pub mode_count : Group → List ℤ → Check
 mode_count g ks = rule Refusal.ModeCount (not (eqb (length ks) g.generators))
+
+-- 20: counter length is not the generator count
+abbrev pub counter_length : Group → List ℕ → Check
+counter_length g cs = rule Refusal.CounterLength (not (eqb (length cs) g.generators))
 
 -- ---- character_numerator: 1, 14, 18, 20, then the numerator of the counter
 

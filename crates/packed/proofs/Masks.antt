@@ -2,7 +2,7 @@
 use Prim.Native.Nat.{ℕ, ◌+◌, ◌-◌, ◌*◌, ◌/◌, ◌%◌, ◌^◌, ◌<◌, ◌≤◌, min}
 use mathlib.Core.Path.{◌≡◌, refl, sym, ap, ap₂, ◌∙◌}
 use mathlib.Core.Logic.{⊎_elim}
-use mathlib.Core.Bool.{Bool, true, false, ◌&&◌, ◌||◌, cond, not, and_false, and_true, or_false, or_self, and_assoc, xor}
+use mathlib.Core.Bool.{Bool, true, false, ◌&&◌, ◌||◌, cond, not, and-false, and-true, or-false, or_self, and_assoc, xor}
 use mathlib.Core.List.{List}
 use native.Mathlib.Nat.{mod-eq_of_lt, mod-lt, mod-eq-sub-mod, mul-add-mod_self_left, div-add-mod, div-add-mod', div-lt_iff_lt-mul, mul-le-mul_left, add-mul-mod_self_left, dvd_of_mod-eq-zero, mod-eq-zero_of_dvd, dvd-add, dvd-sub}
 use native.Mathlib.Omega.{arith}
@@ -78,7 +78,7 @@ place_back b s q d h =
 pub pattern_start : (low high b q : ℕ) → high ≤ b → run_bits low high q ≡ pattern_bits (run_bits low high) b b q
 pattern_start low high b q h =
     ⊎_elim (λ l. ap (run_bits low high) (sym (mod-eq_of_lt l)) ∙ sym (pattern_in (run_bits low high) b b q l))
-    (λ l. ap (λ (t : Bool). not (ltb q low) && t) (le-ltb q high (omega arith)) ∙ and_false (not (ltb q low)) ∙ sym (pattern_out (run_bits low high) b b q l))
+    (λ l. ap (λ (t : Bool). not (ltb q low) && t) (le-ltb q high (omega arith)) ∙ and-false (not (ltb q low)) ∙ sym (pattern_out (run_bits low high) b b q l))
     (below_or_not q b)
 
 -- a pattern with itself moved up by s places, which are whole blocks, goes s places further
@@ -91,7 +91,7 @@ pattern_more f b c s q d h = ⊎_elim inside outside (below_or_not q c)
     inside : q < c → (pattern_bits f b c q || moved_up s (pattern_bits f b c) q) ≡ pattern_bits f b (c + s) q
     inside l =
         ⊎_elim
-        (λ m. ap₂ ◌||◌ (pattern_in f b c q l) (moved_low s (pattern_bits f b c) q m) ∙ or_false (f (q % b)) ∙ sym (pattern_in f b (c + s) q (omega arith)))
+        (λ m. ap₂ ◌||◌ (pattern_in f b c q l) (moved_low s (pattern_bits f b c) q m) ∙ or-false (f (q % b)) ∙ sym (pattern_in f b (c + s) q (omega arith)))
         (λ m. ap₂ ◌||◌ (pattern_in f b c q l) (back m (omega arith)) ∙ or_self (f (q % b)) ∙ sym (pattern_in f b (c + s) q (omega arith)))
         (below_or_not q s)
 
@@ -127,7 +127,7 @@ block_end b n q h d l =
 
 run_keep : (s b n q : ℕ) → 0 < b → (ltb q n && not (ltb (q % b) s) && ltb (q % b) b) ≡ keep_at s b n q
 unfolding keep_at
-run_keep s b n q h = ap (λ (t : Bool). ltb q n && not (ltb (q % b) s) && t) (lt-ltb (q % b) b (mod-lt q h)) ∙ and_true (ltb q n && not (ltb (q % b) s))
+run_keep s b n q h = ap (λ (t : Bool). ltb q n && not (ltb (q % b) s) && t) (lt-ltb (q % b) b (mod-lt q h)) ∙ and-true (ltb q n && not (ltb (q % b) s))
 
 -- the mask of the places of a block from s on
 pub keep_masked : (s b n : ℕ) (ws : List ℕ) → 0 < b → ((q : ℕ) → bit_of ws q ≡ (ltb q n && not (ltb (q % b) s) && ltb (q % b) b)) → Mask (keep_at s b n) ws
@@ -196,7 +196,7 @@ module _ (s b n : ℕ) (x keep : ℕ → Bool) (is_keep : (p : ℕ) → keep p �
           let r = mod-lt q h in
           let place : p % b ≡ q % b + s - b = rotated-place s b q h ∙ mod-eq-sub-mod k ∙ mod-eq_of_lt (omega arith) in
           ap (λ (t : Bool). cond t (moved_up s x p) (x (p + (b - s))))
-          (is_keep p ∙ ap (λ (v : Bool). ltb p n && not v) (lt-ltb (p % b) s (omega arith)) ∙ and_false (ltb p n))
+          (is_keep p ∙ ap (λ (v : Bool). ltb p n && not v) (lt-ltb (p % b) s (omega arith)) ∙ and-false (ltb p n))
           ∙ ap x e
 
   -- a second mask, of the last s places of each block, makes no difference: at every place, a site or past the sites, the two bring what the one brings
@@ -225,10 +225,10 @@ module _ (s b n : ℕ) (x keep : ℕ → Bool) (is_keep : (p : ℕ) → keep p �
           let place : (p + (b - s)) % b ≡ p % b + (b - s) =
           ap (λ (r : ℕ). r % b) e ∙ mul-add-mod_self_left b (p / b) (p % b + (b - s)) ∙ mod-eq_of_lt (omega arith) in
           let inside : p + (b - s) < n = omega (arith, block_end b n p h d m) in
-          by_high (is_keep p ∙ ap (λ (v : Bool). ltb p n && not v) (lt-ltb (p % b) s k) ∙ and_false (ltb p n))
+          by_high (is_keep p ∙ ap (λ (v : Bool). ltb p n && not v) (lt-ltb (p % b) s k) ∙ and-false (ltb p n))
           (ap (λ (v : Bool). x (p + (b - s)) && v)
           (is_high (p + (b - s)) ∙ ap₂ (λ (u v : Bool). u && not v) (lt-ltb (p + (b - s)) n inside) (le-ltb ((p + (b - s)) % b + s) b (omega arith)))
-          ∙ and_true (x (p + (b - s))))
+          ∙ and-true (x (p + (b - s))))
 
       stay : p < n → s ≤ p % b → turned_both s (b - s) x keep high p ≡ turned s (b - s) x keep p
       stay m k =
@@ -240,16 +240,16 @@ module _ (s b n : ℕ) (x keep : ℕ → Bool) (is_keep : (p : ℕ) → keep p �
           let kept : keep p ≡ true = is_keep p ∙ ap₂ (λ (u v : Bool). u && not v) (lt-ltb p n m) (le-ltb (p % b) s k) in
           let low : high (p + (b - s)) ≡ false =
           is_high (p + (b - s))
-          ∙ ap (λ (v : Bool). ltb (p + (b - s)) n && not v) (lt-ltb ((p + (b - s)) % b + s) b (omega arith)) ∙ and_false (ltb (p + (b - s)) n) in
+          ∙ ap (λ (v : Bool). ltb (p + (b - s)) n && not v) (lt-ltb ((p + (b - s)) % b + s) b (omega arith)) ∙ and-false (ltb (p + (b - s)) n) in
           ap₂ (λ (u v : Bool). (u && moved_up s x p) || (x (p + (b - s)) && v)) kept low
-          ∙ ap (λ (v : Bool). moved_up s x p || v) (and_false (x (p + (b - s)))) ∙ or_false (moved_up s x p)
+          ∙ ap (λ (v : Bool). moved_up s x p || v) (and-false (x (p + (b - s)))) ∙ or-false (moved_up s x p)
           ∙ sym (ap (λ (u : Bool). cond u (moved_up s x p) (x (p + (b - s)))) kept)
 
 -- a plane whose words have the bits of a run has no others
 pub run_bits_lem : (low high : ℕ) (ws : List ℕ) (i : ℕ) → high ≤ word_bits * length ws → length ws ≤ i → Between (run_bits low high) 0 i ws → (q : ℕ) → bit_of ws q ≡ run_bits low high q
 run_bits_lem low high ws i h l has q =
     ⊎_elim (λ m. has q (omega arith) (omega arith))
-    (λ m. bit_of_past ws q m ∙ sym (ap (λ (t : Bool). not (ltb q low) && t) (le-ltb q high (omega arith)) ∙ and_false (not (ltb q low))))
+    (λ m. bit_of_past ws q m ∙ sym (ap (λ (t : Bool). not (ltb q low) && t) (le-ltb q high (omega arith)) ∙ and-false (not (ltb q low))))
     (below_or_not q (word_bits * length ws))
 
 -- a mask that holds a pattern as far as c, with its bits moved up by whole blocks, holds the pattern further
@@ -270,7 +270,7 @@ pattern_done low high b c n q e =
 -- without sites there is nothing to mask
 pub pattern_none : (f g : ℕ → Bool) (n q : ℕ) → n ≡ 0 → run_bits 0 0 q ≡ (ltb q n && f q && g q)
 pattern_none f g n q e =
-    ap (λ (t : Bool). not (ltb q 0) && t) (le-ltb q 0 (omega arith)) ∙ and_false (not (ltb q 0))
+    ap (λ (t : Bool). not (ltb q 0) && t) (le-ltb q 0 (omega arith)) ∙ and-false (not (ltb q 0))
     ∙ sym (ap (λ (t : Bool). t && f q && g q) (le-ltb q n (omega arith)))
 
 -- whole blocks, and not none: at least one

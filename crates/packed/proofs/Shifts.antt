@@ -2,7 +2,7 @@
 use Prim.Native.Nat.{ℕ, zero, suc, ◌+◌, ◌-◌, ◌*◌, ◌/◌, ◌%◌, ◌^◌, ◌<◌, ◌≤◌}
 use mathlib.Core.Path.{◌≡◌, refl, sym, ap, ap₂, ◌∙◌}
 use mathlib.Core.Logic.{◌⊎◌, inl, inr, ⊎_elim}
-use mathlib.Core.Bool.{Bool, false, true, ◌&&◌, ◌||◌, cond, not, or_false, xor}
+use mathlib.Core.Bool.{Bool, false, true, ◌&&◌, ◌||◌, cond, not, or-false, xor}
 use mathlib.Core.List.{List}
 use native.Mathlib.Nat.{div-eq_of_lt, lt_of_lt_of_le, mul_assoc}
 use native.Mathlib.Decide.{dec_lt}
@@ -144,7 +144,7 @@ pub joined-up : (lo hi w b k : ℕ) → hi < 2 ^ w → k < w → b ≤ k → bit
 joined-up lo hi w b k f h l =
     bit-or (lo * 2 ^ b % 2 ^ w) (hi / 2 ^ 1 / 2 ^ (w - 1 - b)) k
     ∙ ap₂ ◌||◌ (bit_shl lo w b k h l) (carried_up hi w b k (omega arith) ∙ bit_past hi w (w - b + k) f (omega arith))
-    ∙ or_false (bit_at lo (k - b))
+    ∙ or-false (bit_at lo (k - b))
 
 -- below b it has the highest bits of hi
 pub joined-up_low : (lo hi w b k : ℕ) → k < b → b < w → bit_at (joined_up w b lo hi) k ≡ bit_at hi (w - b + k)
@@ -174,7 +174,7 @@ pub joined-down : (lo hi w b k : ℕ) → b < w → k < w - b → bit_at (joined
 joined-down lo hi w b k l h =
     bit-or (lo / 2 ^ b) (hi * 2 ^ 1 % 2 ^ w * 2 ^ (w - 1 - b) % 2 ^ w) k
     ∙ ap₂ ◌||◌ (bit_shr lo b k) (carried_room hi w b k l h)
-    ∙ or_false (bit_at lo (b + k))
+    ∙ or-false (bit_at lo (b + k))
 
 -- from w - b on it has the lowest bits of hi
 pub joined-down_high : (lo hi w b k : ℕ) → lo < 2 ^ w → b < w → k < w → w - b ≤ k → bit_at (joined_down w b lo hi) k ≡ bit_at hi (k - (w - b))

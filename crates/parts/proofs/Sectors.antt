@@ -4,7 +4,7 @@
 use Prim.Native.Nat.{ℕ, zero, suc, ◌+◌, ◌*◌, ◌/◌, ◌%◌, ◌≤◌, ◌<◌, ◌∣◌, min}
 use mathlib.Core.Path.{◌≡◌, refl, sym, ◌∙◌, ap, ap₂, subst₂}
 use mathlib.Core.Logic.{◌⊎◌, inl, inr, ⊎_elim}
-use mathlib.Core.Bool.{Bool, true, false, ◌&&◌, ◌||◌, not, cond, and_true, true≢false, false≢true}
+use mathlib.Core.Bool.{Bool, true, false, ◌&&◌, ◌||◌, not, cond, and-true, true≢false, false≢true}
 use mathlib.Core.List.{List, [], ◌∷◌, map}
 use native.Mathlib.Nat.{mul-dvd-mul_left, min-eq_left, min-eq_right, dvd-add, dvd-add_iff_left, dvd-add_iff_right, pos_of_ne-zero, mul-div_assoc, mul-div_cancel', dvd_of_mod-eq-zero, mod-eq-zero_of_dvd, dvd_of_mul-dvd-mul_left, mul_left_comm, mul-add, mul-zero, div-eq_of_eq-mul_left, suc_inj, suc-ne-zero, mul-mul-mul_comm, zero-mul, one-mul, mul_comm, mul_assoc}
 use native.Mathlib.Decide.{dec_lt}
@@ -260,7 +260,7 @@ module _ {n : ℕ} {gs fs hs : List Generator} (s : Interleaved gs fs hs) (v : V
   unfolding breaks
   first-breaks i =
       ap₂ (λ (a b : Bool). a && not b)
-      (fixes-joined s v p fl hl w long i 0 ∙ ap (λ (b : Bool). fixes fs w i && b) (fixes-zero hs w) ∙ and_true (fixes fs w i))
+      (fixes-joined s v p fl hl w long i 0 ∙ ap (λ (b : Bool). fixes fs w i && b) (fixes-zero hs w) ∙ and-true (fixes fs w i))
       (trivial-first s some some_first some-second ks e i)
 
   pub second-breaks : (j : ℕ) → breaks gs ks w (joined s 0 j) ≡ breaks hs (of_second s ks) w j

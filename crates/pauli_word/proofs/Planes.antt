@@ -3,7 +3,7 @@
 use Prim.Native.Nat.{ℕ, zero, suc, ◌+◌, ◌-◌, ◌*◌, ◌/◌, ◌%◌, ◌^◌, ◌<◌, ◌≤◌}
 use mathlib.Core.Path.{◌≡◌, refl, sym, ap, ap₂, subst, ◌∙◌}
 use mathlib.Core.Logic.{⊎_elim}
-use mathlib.Core.Bool.{Bool, true, false, ◌&&◌, ◌||◌, and_assoc, and_true}
+use mathlib.Core.Bool.{Bool, true, false, ◌&&◌, ◌||◌, and_assoc, and-true}
 use mathlib.Core.List.{List, [], ◌∷◌, ◌++◌, append_assoc}
 use native.Mathlib.Nat.{mod-lt, div-add-mod, le_of_suc-le-suc, not-suc-le-zero, le_of_lt, lt_of_lt_of_le, zero-div, suc-add, zero-add, one-mul, mod-eq_of_lt, min-le_left}
 use native.Mathlib.Numerals.{add-one}
@@ -189,7 +189,7 @@ module _ (p : List ℕ) (j any : ℕ) where
 
   pub clear-end : length p ≤ j → (eqb any 0 && clear (plane_bits (drop j p))) ≡ eqb any 0
   unfolding plane_bits clear
-  clear-end h = rw (drop_of_length-le p h) (and_true (eqb any 0))
+  clear-end h = rw (drop_of_length-le p h) (and-true (eqb any 0))
 
 -- ---- bits to bytes and back
 

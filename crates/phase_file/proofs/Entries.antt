@@ -2,7 +2,7 @@
 use Prim.Native.Nat.{ℕ, zero, suc, ◌+◌, ◌<◌}
 use mathlib.Core.Path.{◌≡◌, refl, sym, ap, ap₂, ◌∙◌}
 use mathlib.Core.Logic.{◌⊎◌, inl, inr}
-use mathlib.Core.Bool.{Bool, true, false, ◌&&◌, cond, false≢true, and-eq-true_iff, and_false}
+use mathlib.Core.Bool.{Bool, true, false, ◌&&◌, cond, false≢true, and-eq-true_iff, and-false}
 use mathlib.Core.List.{List, [], ◌∷◌, ◌++◌}
 use native.Mathlib.Nat.{eq-or-lt_of_le}
 use native.Mathlib.Omega.{arith}
@@ -33,7 +33,7 @@ rest_fails : (c text : List ℕ) → is_signed text ≡ false → two_numbers (c
 rest_fails c text e = go (eq-or-lt_of_le (before_short space text))
   where
     go : (length (before space text) ≡ length text) ⊎ (length (before space text) < length text) → two_numbers (c ∷ pieces space text) ≡ false
-    go (inl h) = ap (λ (ps : List (List ℕ)). two_numbers (c ∷ ps)) (pieces_last space text h) ∙ rw e (and_false (is_signed c))
+    go (inl h) = ap (λ (ps : List (List ℕ)). two_numbers (c ∷ ps)) (pieces_last space text h) ∙ rw e (and-false (is_signed c))
     go (inr h) =
         let (p, ps, s) = pieces-some space (drop (length (before space text) + 1) text) in
         ap (λ (qs : List (List ℕ)). two_numbers (c ∷ qs)) (pieces-next space text _ refl h)
@@ -145,7 +145,7 @@ entries-broken n line lines e = rw e
 -- a line that no line end follows
 pub entries_unended : (n : ℕ) (line : List ℕ) → entries_alone (suc n) (line ∷ []) ≡ false
 unfolding entries_alone
-entries_unended n line = ap (λ (b : Bool). is_entry line && b) (entries_none n) ∙ and_false (is_entry line)
+entries_unended n line = ap (λ (b : Bool). is_entry line && b) (entries_none n) ∙ and-false (is_entry line)
 
 -- entries with nothing after them, and back
 pub entries_made : (lines : List (List ℕ)) → every is_entry lines ≡ true → entries_alone (length lines) (lines ++ ([] ∷ [])) ≡ true

@@ -4,7 +4,7 @@
 use Prim.Native.Nat.{ℕ, suc, ◌+◌, ◌-◌, ◌≤◌, ◌<◌}
 use mathlib.Core.Path.{◌≡◌, refl, sym, ap, ◌∙◌}
 use mathlib.Core.Logic.{◌⊎◌, inl, inr, ⊎_elim}
-use mathlib.Core.Bool.{Bool, true, false, ◌&&◌, and_false}
+use mathlib.Core.Bool.{Bool, true, false, ◌&&◌, and-false}
 use mathlib.Core.List.{List, [], ◌∷◌}
 use native.Mathlib.Nat.{eq-or-lt_of_le, add-zero}
 use native.Mathlib.Numerals.{add-one}
@@ -174,7 +174,7 @@ file_other file e = go (names-other column_names file e)
         sym
         (ap is_file (pieces_last line_end file h)
         ∙ ap (λ (b : Bool). same_numbers file column_names && b) (entries_none turn)
-        ∙ and_false (same_numbers file column_names))
+        ∙ and-false (same_numbers file column_names))
     go (inr (at, d)) = sym (ap is_file (ended-pieces file (length (before line_end file)) at) ∙ rw d)
 
 module _ (file : List ℕ) (k : ℕ) (at : Ended file k) where

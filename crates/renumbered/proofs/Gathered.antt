@@ -2,7 +2,7 @@
 use Prim.Native.Nat.{ℕ, zero, suc, ◌+◌, ◌-◌, ◌*◌, ◌/◌, ◌%◌, ◌^◌, ◌≤◌, ◌<◌, min}
 use mathlib.Core.Path.{◌≡◌, refl, sym, ap, ap₂, ◌∙◌}
 use mathlib.Core.Logic.{⊎_elim}
-use mathlib.Core.Bool.{Bool, true, false, ◌&&◌, ◌||◌, cond, or_false}
+use mathlib.Core.Bool.{Bool, true, false, ◌&&◌, ◌||◌, cond, or-false}
 use mathlib.Core.List.{List}
 use native.Mathlib.Omega.{arith}
 use borrow.Author.Tests.{lt-ltb, le-ltb}
@@ -46,7 +46,7 @@ gathered_next f count k x b some inside small low has (suc j) h =
     let e : suc j - 1 ≡ j = omega arith in
     bit-or (x * 2 ^ 1 % 2 ^ word_bits) b (suc j)
     ∙ ap₂ ◌||◌ (bit_shl x word_bits 1 (suc j) h (omega arith) ∙ ap (bit_at x) e ∙ has j (omega arith)) (bit_past b 1 (suc j) small (omega arith))
-    ∙ or_false (first_bits (λ i. f (k + i)) (count - k) j)
+    ∙ or-false (first_bits (λ i. f (k + i)) (count - k) j)
     ∙ ⊎_elim below past (below_or_not j (count - k))
   where
     below : j < count - k → first_bits (λ i. f (k + i)) (count - k) j ≡ first_bits (λ i. f (k - 1 + i)) (count - (k - 1)) (suc j)

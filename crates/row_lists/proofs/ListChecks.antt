@@ -4,7 +4,7 @@
 use Prim.Native.Nat.{ℕ, zero, suc, ◌+◌, ◌*◌, ◌/◌, ◌%◌, ◌≤◌, ◌<◌}
 use mathlib.Core.Path.{◌≡◌, refl, sym, ap, ◌∙◌}
 use mathlib.Core.Logic.{◌⊎◌, inl, inr}
-use mathlib.Core.Bool.{Bool, true, false, ◌&&◌, ◌||◌, and-eq-true_iff, and_false, and_true, or-true}
+use mathlib.Core.Bool.{Bool, true, false, ◌&&◌, ◌||◌, and-eq-true_iff, and-false, and-true, or-true}
 use mathlib.Core.List.{List, [], ◌∷◌}
 use native.Mathlib.Decide.{ℕ_discrete}
 use native.Mathlib.Numerals.{add-one}
@@ -63,17 +63,17 @@ module _ (words rows : ℕ) where
 
 module _ (words rows leasts first second : ℕ) where
   pub leasts-disagree : (leasts ≡ word_length * rows → ⊥) → false ≡ rows_agree words rows leasts first second
-  leasts-disagree h = sym (simp (ne_eqb leasts (word_length * rows) h, and_false))
+  leasts-disagree h = sym (simp (ne_eqb leasts (word_length * rows) h, and-false))
 
   pub first-disagree : (first ≡ rows → ⊥) → false ≡ rows_agree words rows leasts first second
-  first-disagree h = sym (simp (ne_eqb first rows h, and_false))
+  first-disagree h = sym (simp (ne_eqb first rows h, and-false))
 
   pub second-disagree : (second ≡ rows → ⊥) → false ≡ rows_agree words rows leasts first second
-  second-disagree h = sym (simp (ne_eqb second rows h, and_false))
+  second-disagree h = sym (simp (ne_eqb second rows h, and-false))
 
   module _ (l : leasts ≡ word_length * rows) (f : first ≡ rows) (s : second ≡ rows) where
     words-decide : rows_agree words rows leasts first second ≡ words_agree words rows
-    words-decide = simp (eq-eqb leasts (word_length * rows) l, eq-eqb first rows f, eq-eqb second rows s, and_true)
+    words-decide = simp (eq-eqb leasts (word_length * rows) l, eq-eqb first rows f, eq-eqb second rows s, and-true)
 
     pub full-agree : words ≡ word_length * rows → true ≡ rows_agree words rows leasts first second
     full-agree e = sym (words-decide ∙ words-full words rows e)

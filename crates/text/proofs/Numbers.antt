@@ -2,7 +2,7 @@
 -- What carries it: reading on from a number never comes below it, so that above the cap nothing changes any more (`readOn-capped`).
 use Prim.Native.Nat.{ℕ, zero, suc, ◌+◌, ◌-◌, ◌*◌, ◌≤◌, ◌<◌, min}
 use mathlib.Core.Path.{◌≡◌, refl, sym, ap, ◌∙◌}
-use mathlib.Core.Bool.{Bool, true, false, ◌&&◌, not, cond, false≢true, true≢false, and_true, and_false}
+use mathlib.Core.Bool.{Bool, true, false, ◌&&◌, not, cond, false≢true, true≢false, and-true, and-false}
 use mathlib.Core.List.{List, [], ◌∷◌}
 use native.Mathlib.Nat.{le_trans, min-eq_left, min-eq_right}
 use native.Mathlib.Numerals.{add-one}
@@ -58,20 +58,20 @@ number_none (b ∷ bs) h = absurd (omega arith)
 pub number_one : (text : List ℕ) → length text ≡ 1 → is_number text ≡ every is_digit text
 unfolding is_number every
 number_one [] h = absurd (omega arith)
-number_one (b ∷ []) h = sym (and_true (is_digit b))
+number_one (b ∷ []) h = sym (and-true (is_digit b))
 number_one (b ∷ c ∷ bs) h = absurd (omega arith)
 
 pub number-zero : (text : List ℕ) → 1 < length text → get_or text 0 0 ≡ zero_digit → is_number text ≡ false
 unfolding is_number
 number-zero [] l e = absurd (omega arith)
 number-zero (b ∷ []) l e = absurd (omega arith)
-number-zero (b ∷ c ∷ bs) l e = simp (eq-eqb b zero_digit e, and_false)
+number-zero (b ∷ c ∷ bs) l e = simp (eq-eqb b zero_digit e, and-false)
 
 pub number_more : (text : List ℕ) → 1 < length text → (get_or text 0 0 ≡ zero_digit → ⊥) → is_number text ≡ every is_digit text
 unfolding is_number every
 number_more [] l n = absurd (omega arith)
 number_more (b ∷ []) l n = absurd (omega arith)
-number_more (b ∷ c ∷ bs) l n = simp (ne_eqb b zero_digit n, and_true)
+number_more (b ∷ c ∷ bs) l n = simp (ne_eqb b zero_digit n, and-true)
 
 -- ---- numbers up to the cap
 
@@ -153,7 +153,7 @@ module _ (text : List ℕ) (some : 0 < length text) (m : get_or text 0 0 ≡ min
     pub minus-zero : v ≡ 0 → signed_read text ≡ Signed.Other
     minus-zero z =
         let n : number_of (drop 1 text) ≡ 0 = omega arith in
-        simp (is-minus, eq-eqb (number_of (drop 1 text)) 0 n, and_false (is_number (drop 1 text)))
+        simp (is-minus, eq-eqb (number_of (drop 1 text)) 0 n, and-false (is_number (drop 1 text)))
 
     pub minus-value : is_number (drop 1 text) ≡ true → 0 < v → Signed.Value (negsuc (v - 1)) ≡ signed_read text
     minus-value t p =

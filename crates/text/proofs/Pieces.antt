@@ -3,7 +3,7 @@
 use Prim.Native.Nat.{ℕ, suc, ◌+◌, ◌-◌, ◌≤◌, ◌<◌}
 use mathlib.Core.Path.{◌≡◌, refl, sym, ap, subst, ◌∙◌}
 use mathlib.Core.Logic.{◌⊎◌, inl, inr}
-use mathlib.Core.Bool.{Bool, true, false, ◌&&◌, not, cond, false≢true, and-eq-true_iff, and_false}
+use mathlib.Core.Bool.{Bool, true, false, ◌&&◌, not, cond, false≢true, and-eq-true_iff, and-false}
 use mathlib.Core.List.{List, [], ◌∷◌, ◌++◌, append-nil}
 use native.Mathlib.Nat.{eq-or-lt_of_le, le_of_suc-le-suc}
 use native.Mathlib.Numerals.{add-one}
@@ -323,7 +323,7 @@ Fields-from line n start = eqb (length (pieces space (drop start line))) n && ev
 
 first_empty : (n : ℕ) (p : List ℕ) (ps : List (List ℕ)) → length p ≡ 0 → (eqb (length (p ∷ ps)) n && every non_empty (p ∷ ps)) ≡ false
 unfolding every
-first_empty n p ps h = simp (eq-eqb (length p) 0 h, and_false (eqb (suc (length ps)) n))
+first_empty n p ps h = simp (eq-eqb (length p) 0 h, and-false (eqb (suc (length ps)) n))
 
 module _ (line : List ℕ) (start : ℕ) where
   abbrev rest : List ℕ

@@ -1,0 +1,7 @@
+-- `powers::square` meets its contract.
+use mathlib.Core.Path.{◌∙◌}
+use borrow.Author.Rules.{rules}
+use Rattle.at_index.proofs.powers.square.Goals as goal
+
+pub returns : goal.returns
+returns c = c.copy.ensures ∙ c.fill_square.ensures

@@ -1,0 +1,19 @@
+-- `gomurin_canonicalize` meets its contract: it tells what `orbit::lent::canonicalize` comes to.
+use Rattle.c_api.proofs.Telling.{number-told, values-told}
+use Rattle.orbit.specs.Calls.{canonicalize_outcome}
+use Rattle.outcome.specs.Outcome.{done}
+use mathlib.Core.Path.{◌∙◌}
+use borrow.Author.Rules.{rules}
+use Rattle.group.specs.Value.{group_in}
+use Rattle.c_api.proofs.orbits.gomurin_canonicalize.Goals as goal
+
+pub returns : goal.returns
+returns c =
+    let a = c.args in
+    let held = group_in a.sites a.generators a.orders.now a.targets.now in
+    let o = canonicalize_outcome held a.n a.word.now in
+    let e = c.canonicalize-found.ensures.answer in record {
+      number = c.verdict.ensures.number ∙ number-told done o e;
+      least = c.canonicalize-found.ensures.word;
+      values = c.verdict.ensures.values ∙ values-told done o e;
+    }

@@ -1,0 +1,10 @@
+-- `scan::anew` meets its contract.
+use borrow.Author.Tests.{eq-eqb, ne_eqb}
+use borrow.Author.Rules.{rules}
+use Rattle.cyclic.proofs.scan.anew.Goals as goal
+
+pub returns-then-i-j : goal.returns-then-i-j
+returns-then-i-j c = simp (eq-eqb _ _ c.if-i-j.true)
+
+pub returns-else-i-j : goal.returns-else-i-j
+returns-else-i-j c = simp (ne_eqb _ _ c.if-i-j.false)

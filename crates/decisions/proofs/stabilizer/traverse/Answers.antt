@@ -1,0 +1,23 @@
+-- `stabilizer::traverse` meets its contract: it finds the masks and hands them to the traversal.
+use mathlib.Core.Path.{refl}
+use native.Mathlib.Omega.{arith}
+use borrow.Author.Rules.{rules}
+use Rattle.decisions.proofs.stabilizer.traverse.Goals as goal
+
+pub find_masks-by_masks-requires : goal.find_masks-by_masks-requires
+find_masks-by_masks-requires c = record {
+  tables = c.requires.tables;
+  sites_bound = c.words_in_use-words.ensures;
+  strides_len = (refl, refl, omega (arith, c.words_in_use-words.ensures.1));
+}
+
+pub canonicalize_with_stabilizer-requires : goal.canonicalize_with_stabilizer-requires
+canonicalize_with_stabilizer-requires c = record {
+  tables = c.requires.tables;
+  order_value = c.requires.order_value;
+  m_value = c.requires.m_value;
+  modes_len = c.requires.modes_len;
+  accepted_word = c.requires.accepted_word;
+  sites_bound = c.words_in_use-words.ensures;
+  ready = c.find_masks-by_masks.ensures;
+}

@@ -1,0 +1,54 @@
+-- `lent::canonicalize_with_shift` meets its contract: the checks pass or refuse, and `calls::shift_of` answers of the word in full
+-- (`with-shift-full`).
+use Prim.Native.Nat.{ℕ}
+use mathlib.Core.Path.{◌≡◌, sym, ap, ◌∙◌}
+use mathlib.Core.List.{List}
+use lib.ListN.{length}
+use Rattle.outcome.specs.Outcome.{answer, verdict, on_answer, or_else, done}
+use Rattle.outcome.proofs.Outcomes.{told-passes}
+use Rattle.pauli_word.specs.Bytes.{in_full}
+use Rattle.pauli_word.proofs.Planes.{bytes_of_lem}
+use Rattle.group.specs.declared.Group.{Group}
+use Rattle.group.specs.Value.{group_in}
+use Rattle.orbit.specs.Calls.{word_call_checks, with_shift_outcome, word_of, shift_of}
+use Rattle.row_lists.specs.Rows.{no_word}
+use Rattle.orbit.proofs.WordCalls.{call-sites, call_long, call_fits, full-passes, full-word}
+use Rattle.orbit.proofs.Outcomes.{shift-refused, with-shift-full}
+use borrow.Author.Rules.{rules}
+use Rattle.orbit.proofs.lent.canonicalize_with_shift.Goals as goal
+
+pub in_full-full-requires : goal.in_full-full-requires
+in_full-full-requires c = call_long (group_in c.args.sites c.args.generators c.args.orders.now c.args.targets.now) c.args.n c.args.word.now (told-passes (word_call_checks (group_in c.args.sites c.args.generators c.args.orders.now c.args.targets.now) c.args.n c.args.word.now) _ c.word_call_checked.ensures c.in-Accepted.is)
+
+pub shift_of-requires : goal.shift_of-requires
+shift_of-requires c =
+    let bytes = c.args.word.now in record {
+      word_value = rw c.in_full-full.ensures (full-passes (group_in c.args.sites c.args.generators c.args.orders.now c.args.targets.now) c.args.n bytes (told-passes (word_call_checks (group_in c.args.sites c.args.generators c.args.orders.now c.args.targets.now) c.args.n c.args.word.now) _ c.word_call_checked.ensures c.in-Accepted.is));
+      accepted_word = rw c.in_full-full.ensures
+          (full-word (group_in c.args.sites c.args.generators c.args.orders.now c.args.targets.now) c.args.n bytes (told-passes (word_call_checks (group_in c.args.sites c.args.generators c.args.orders.now c.args.targets.now) c.args.n c.args.word.now) _ c.word_call_checked.ensures c.in-Accepted.is) (bytes_of_lem bytes (λ i. (c.shared_slice_known-1.given i).fits)));
+    }
+
+pub returns-in-Refused : goal.returns-in-Refused
+returns-in-Refused c =
+    let counter = c.args.counter.now in
+    let e = shift-refused (group_in c.args.sites c.args.generators c.args.orders.now c.args.targets.now) c.args.n c.args.word.now (length counter) c.word_call_checked.ensures c.in-Refused.is in record {
+      answer = sym (ap (on_answer done) e);
+      word = sym (ap (or_else word_of no_word) e);
+      counter = sym (ap (or_else shift_of counter) e);
+    }
+
+pub returns-in-Accepted : goal.returns-in-Accepted
+returns-in-Accepted c =
+    let g = group_in c.args.sites c.args.generators c.args.orders.now c.args.targets.now in
+    let n = c.args.n in
+    let bytes = c.args.word.now in
+    let counter = c.args.counter.now in
+    let e =
+    ap (λ (full : List ℕ). with_shift_outcome g c.args.sites full (length counter)) c.in_full-full.ensures
+    ∙ ap (λ (k : ℕ). with_shift_outcome g k (in_full bytes) (length counter)) (sym (call-sites g n bytes (told-passes (word_call_checks (group_in c.args.sites c.args.generators c.args.orders.now c.args.targets.now) c.args.n c.args.word.now) _ c.word_call_checked.ensures c.in-Accepted.is)))
+    ∙ with-shift-full g n bytes (call_fits g n bytes (told-passes (word_call_checks (group_in c.args.sites c.args.generators c.args.orders.now c.args.targets.now) c.args.n c.args.word.now) _ c.word_call_checked.ensures c.in-Accepted.is)) (length counter)
+    in record {
+      answer = c.shift_of.ensures.answer ∙ ap (on_answer done) e;
+      word = c.shift_of.ensures.word ∙ ap (or_else word_of no_word) e;
+      counter = c.shift_of.ensures.counter ∙ ap (or_else shift_of counter) e;
+    }

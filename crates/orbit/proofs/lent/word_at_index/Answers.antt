@@ -1,0 +1,49 @@
+-- `lent::word_at_index` meets its contract: the checks pass or refuse, and `calls::word_of` answers of the word in full (`word-at-full`).
+use Prim.Native.Nat.{ℕ}
+use mathlib.Core.Path.{◌≡◌, sym, ap, ◌∙◌}
+use mathlib.Core.List.{List}
+use Rattle.outcome.specs.Outcome.{answer, verdict, on_answer, or_else, done}
+use Rattle.outcome.proofs.Outcomes.{told-passes}
+use Rattle.pauli_word.specs.Bytes.{bytes_of, in_full}
+use Rattle.pauli_word.proofs.Planes.{bytes_of_lem}
+use Rattle.group.specs.declared.Group.{Group}
+use Rattle.group.specs.Value.{group_in}
+use Rattle.row_lists.specs.Rows.{no_word}
+use Rattle.orbit.specs.Calls.{word_call_checks, word_at_outcome}
+use Rattle.orbit.proofs.WordCalls.{call-sites, call_long, call_fits, full-passes, full-word}
+use Rattle.orbit.proofs.Outcomes.{at-refused, word-at-full}
+use borrow.Author.Rules.{rules}
+use Rattle.orbit.proofs.lent.word_at_index.Goals as goal
+
+pub in_full-full-requires : goal.in_full-full-requires
+in_full-full-requires c = call_long (group_in c.args.sites c.args.generators c.args.orders.now c.args.targets.now) c.args.n c.args.word.now (told-passes (word_call_checks (group_in c.args.sites c.args.generators c.args.orders.now c.args.targets.now) c.args.n c.args.word.now) _ c.word_call_checked.ensures c.in-Accepted.is)
+
+pub word_of-requires : goal.word_of-requires
+word_of-requires c =
+    let bytes = c.args.word.now in record {
+      word_value = rw c.in_full-full.ensures (full-passes (group_in c.args.sites c.args.generators c.args.orders.now c.args.targets.now) c.args.n bytes (told-passes (word_call_checks (group_in c.args.sites c.args.generators c.args.orders.now c.args.targets.now) c.args.n c.args.word.now) _ c.word_call_checked.ensures c.in-Accepted.is));
+      accepted_word = rw c.in_full-full.ensures
+          (full-word (group_in c.args.sites c.args.generators c.args.orders.now c.args.targets.now) c.args.n bytes (told-passes (word_call_checks (group_in c.args.sites c.args.generators c.args.orders.now c.args.targets.now) c.args.n c.args.word.now) _ c.word_call_checked.ensures c.in-Accepted.is) (bytes_of_lem bytes (λ i. (c.shared_slice_known-1.given i).fits)));
+    }
+
+pub returns-in-Refused : goal.returns-in-Refused
+returns-in-Refused c =
+    let e = at-refused (group_in c.args.sites c.args.generators c.args.orders.now c.args.targets.now) c.args.n c.args.word.now c.args.index c.word_call_checked.ensures c.in-Refused.is in record {
+      answer = sym (ap (on_answer done) e);
+      word = sym (ap (or_else bytes_of no_word) e);
+    }
+
+pub returns-in-Accepted : goal.returns-in-Accepted
+returns-in-Accepted c =
+    let g = group_in c.args.sites c.args.generators c.args.orders.now c.args.targets.now in
+    let n = c.args.n in
+    let bytes = c.args.word.now in
+    let index = c.args.index in
+    let e =
+    ap (λ (full : List ℕ). word_at_outcome g c.args.sites full index) c.in_full-full.ensures
+    ∙ ap (λ (k : ℕ). word_at_outcome g k (in_full bytes) index) (sym (call-sites g n bytes (told-passes (word_call_checks (group_in c.args.sites c.args.generators c.args.orders.now c.args.targets.now) c.args.n c.args.word.now) _ c.word_call_checked.ensures c.in-Accepted.is)))
+    ∙ word-at-full g n bytes (call_fits g n bytes (told-passes (word_call_checks (group_in c.args.sites c.args.generators c.args.orders.now c.args.targets.now) c.args.n c.args.word.now) _ c.word_call_checked.ensures c.in-Accepted.is)) index
+    in record {
+      answer = c.word_of.ensures.answer ∙ ap (on_answer done) e;
+      word = c.word_of.ensures.word ∙ ap (or_else bytes_of no_word) e;
+    }

@@ -1,0 +1,12 @@
+-- `rules::range_kept` meets its contract. The loop's invariant: no entry below j fails.
+use Prim.Native.Nat.{◌-◌}
+use borrow.Author.Rules.{rules}
+use Rattle.phases.specs.Rules.{turn, table_of, entry_in_range}
+use Rattle.phases.proofs.Steps.{Passing, each_start, each_next, each-fails, each-passes}
+use Rattle.phases.proofs.rules.range_kept.Given as goal
+
+abbrev pub invariant-loop-j : goal.invariant-loop-j
+invariant-loop-j l = Passing (entry_in_range (table_of l.cosines l.sines)) turn l.j
+
+abbrev pub decreases-loop-j : goal.decreases-loop-j
+decreases-loop-j l = turn - l.j

@@ -1,0 +1,12 @@
+-- `rules::turned_kept` meets its contract. The loop's invariant: no entry below j fails.
+use Prim.Native.Nat.{◌-◌}
+use borrow.Author.Rules.{rules}
+use Rattle.phases.specs.Rules.{turn, table_of, turned_right}
+use Rattle.phases.proofs.Steps.{Passing, each_start, each_next, each-fails, each-passes}
+use Rattle.phases.proofs.rules.turned_kept.Given as goal
+
+abbrev pub invariant-loop-j : goal.invariant-loop-j
+invariant-loop-j l = Passing (turned_right (table_of l.cosines l.sines)) turn l.j
+
+abbrev pub decreases-loop-j : goal.decreases-loop-j
+decreases-loop-j l = turn - l.j
