@@ -1,7 +1,7 @@
 /* The README's first table through the library: the whole sheet by one call, and then its first two rows by one call for each column.
  *
- *   rt staticlib c_api
- *   cc -Iinclude examples-c/first_table.c target/staticlib/libc_api.a -o first_table && ./first_table
+ *   (cd crates/c_api && rt lib)
+ *   cc -Iinclude examples-c/first_table.c crates/c_api/out/libc_api.a -o first_table && ./first_table
  */
 #include "gomurin.h"
 

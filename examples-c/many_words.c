@@ -1,8 +1,8 @@
 /* Many words in one call: the least word of each one's orbit on a ring of 4 sites, and the index that leads from there back to it. Then, by one call
  * more, which of the words a mode keeps.
  *
- *   rt staticlib c_api
- *   cc -Iinclude examples-c/many_words.c target/staticlib/libc_api.a -o many_words && ./many_words
+ *   (cd crates/c_api && rt lib)
+ *   cc -Iinclude examples-c/many_words.c crates/c_api/out/libc_api.a -o many_words && ./many_words
  */
 #include "gomurin.h"
 
