@@ -1,5 +1,5 @@
-/* Gomurin for C: symmetry tables of spin lattices, every answer proved. The library is built by `rt staticlib c_api`, which writes
- * target/staticlib/libc_api.a; link it and include this file.
+/* Gomurin for C: symmetry tables of spin lattices, every answer proved. The library is built by `rt lib` in crates/c_api, which writes
+ * out/libc_api.a there; link it and include this file.
  *
  * How things are passed. A slice is two parameters, the address of its first element and the number of its elements; the address of an empty slice
  * may be any that is not null and is aligned. An array of fixed length is the address of its first element, and the caller has all of its elements
