@@ -3,23 +3,20 @@ ghost use Rattle.std.specs.Prelude.{◌≡◌, ◌<◌, length};
 ghost use Rattle.pauli_word.specs.Word.{Word};
 ghost use Rattle.action.specs.Permutation.{Permutes};
 ghost use Rattle.action.specs.Orbit.{moves, reach};
-ghost use Rattle.elements.specs.HeldGroup.{generators_in, Tables};
+ghost use Rattle.elements.specs.HeldGroup.{HoldsGroup, generators_held};
 ghost use Rattle.elements.specs.Letters.{codes};
 ghost use Rattle.at_index.specs.Powers.{squared};
 
 use elements::letters;
 use pauli_word::MAX_SITES;
+use permutation::Lent;
 
 // Copies targets.
 pub fn copy(src: &[u16], dst: &mut [u16])
     requires { length src.now ≡ length dst.old }
     ensures { dst.new ≡ src.now }
 {
-    let mut q = 0;
-    while q < src.len() {
-        dst[q] = src[q];
-        q += 1;
-    }
+    dst.copy_from_slice(src);
 }
 
 // The square of a permutation: where two moves send each site.
@@ -28,11 +25,9 @@ pub fn fill_square(perm: &[u16], out: &mut [u16])
     requires out_len { length out.old ≡ length perm.now }
     ensures { out.new ≡ squared perm.now }
 {
-    let mut q = 0;
-    while q < perm.len() {
+    for q in 0..perm.len() {
         let next = perm[q] as usize;
         out[q] = perm[next];
-        q += 1;
     }
 }
 
@@ -73,6 +68,7 @@ pub fn move_often(
     ensures { (w : Word) → here.old ≡ codes w → here.new ≡ codes (moves count perm.old w) }
 {
     let mut left = count;
+    // A while: what is left is halved, which no range counts.
     while 1 < left {
         move_by_digit(left % 2, perm, here, spare);
         square(perm, room);
@@ -83,32 +79,33 @@ pub fn move_often(
 
 // Codes moved by each generator as often as its digit of the index says; perm and room are room for targets, spare for codes.
 pub fn reach_codes(
-    targets: &[u16],
-    orders: &[u32],
-    generators: usize,
-    sites: usize,
+    group: &Lent<'_>,
     index: usize,
     perm: &mut [u16],
     room: &mut [u16],
     here: &mut [u8],
     spare: &mut [u8],
 )
-    requires tables { Tables generators sites targets.now orders.now }
-    requires perm_len { length perm.old ≡ sites }
-    requires room_len { length room.old ≡ sites }
-    requires here_len { length here.old ≡ sites }
-    requires spare_len { length spare.old ≡ sites }
-    ensures { (w : Word) → here.old ≡ codes w → here.new ≡ codes (reach (generators_in generators sites targets.now orders.now) index w) }
+    requires tables { HoldsGroup group.now }
+    requires perm_len { length perm.old ≡ group.now.sites }
+    requires room_len { length room.old ≡ group.now.sites }
+    requires here_len { length here.old ≡ group.now.sites }
+    requires spare_len { length spare.old ≡ group.now.sites }
+    ensures { (w : Word) → here.old ≡ codes w → here.new ≡ codes (reach (generators_held group.now) index w) }
 {
+    let Lent {
+        targets,
+        orders,
+        generators,
+        sites,
+    } = *group;
     let mut rest = index;
-    let mut g = 0;
-    while g < generators {
+    for g in 0..generators {
         let start = MAX_SITES * g;
         let end = start + sites;
         let o = orders[g] as usize;
         copy(&targets[start..end], perm);
         move_often(rest % o, perm, room, here, spare);
         rest = rest / o;
-        g += 1;
     }
 }

@@ -1,6 +1,8 @@
 -- What is promised of the calls for C beyond their contracts: 0 is returned for an answer alone; no value of a rule is lost; a refused beginning of a walk
 -- hands back a word and an index that `gomurin_next` refuses, whatever the group beside them; the two lists of a phase table that a call hands back pass;
 -- a call on many words returns 0 or a rule of its own, and a row that it names is one of its rows; and what each definition says of an example.
+use Rattle.std.specs.declared.cmp.Ordering.TheVariants.{Less, Equal, Greater}
+use Rattle.std.specs.Prelude.{Result, Ok, Err, Some, None}
 use Prim.Native.Nat.{ℕ, zero, suc, ◌+◌, ◌<◌}
 use mathlib.Core.Path.{◌≡◌, refl, ap}
 use mathlib.Core.Logic.{inl, inr}
@@ -13,12 +15,7 @@ use lib.ListN.{length, take, get_or}
 use borrow.Author.Tests.{lt-leb}
 use Rattle.outcome.specs.declared.Refusal.{Refusal}
 use Rattle.outcome.specs.declared.Refusal.TheVariants as Refusal
-use Rattle.outcome.specs.declared.Number.{Number}
-use Rattle.outcome.specs.declared.Number.TheVariants as Number
-use Rattle.outcome.specs.declared.Verdict.{Verdict}
-use Rattle.outcome.specs.declared.Verdict.TheVariants as Verdict
-use Rattle.outcome.specs.Outcome.{Outcome, answer, refused, answers, Check, rule, verdict, given, unless, rule_number, rule_values, outcome_of_number, outcome_of_verdict}
-use Rattle.pauli_word.specs.declared.Ordering.TheVariants.{Less, Same, Greater}
+use Rattle.outcome.specs.Outcome.{Outcome, answer, refused, answers, Check, rule, verdict, given, unless, rule_number, rule_values, outcome_of}
 use Rattle.pauli_word.specs.Limits.{max_sites}
 use Rattle.pauli_word.specs.Calls.{clear_above}
 use Rattle.permutation.specs.Limits.{max_generators, max_order, target_places}
@@ -29,9 +26,11 @@ use Rattle.group.specs.Value.{generators_of, is_group}
 use Rattle.group.proofs.Accepted.{accepted-by, accepted_tables}
 use Rattle.row_lists.specs.Rows.{rows_in_full, no_word}
 use Rattle.row_lists.specs.Checks.{bits_above_sites}
+use Rattle.orbit.specs.declared.Entry.{Entry as EntryGiven}
 use Rattle.orbit.specs.Calls.{is_walk, no_walk, next_outcome, entry, finished, walk_in}
 use Rattle.orbit.specs.Words.{words_checks, words_outcome}
 use Rattle.decisions.specs.Decisions.{kept, dropped}
+use Rattle.momentum.specs.declared.Sector.TheVariants as Sector
 use Rattle.momentum.specs.Words.{sector_words_checks, sector_words_outcome}
 use Rattle.text.specs.Text.{line_end, pieces}
 use Rattle.phases.specs.Table.{phase_table}
@@ -39,9 +38,10 @@ use Rattle.phases.specs.Rules.{table_of, passes}
 use Rattle.phases.proofs.Constant.{constant_passes}
 use Rattle.phase_file.specs.File.{max_file, is_file, table_in, file_outcome, table_after}
 use Rattle.phase_file.proofs.Promises.{after-passes}
-use Rattle.project.specs.Calls.{ProjectedSum, counts_of}
+use Rattle.project.specs.declared.Projection.{Projection}
+use Rattle.project.specs.Calls.{ProjectedSum, projection_of}
 use Rattle.sheet_text.specs.Sheet.{Page, table_page, refusal_page}
-use Rattle.c_api.specs.Told.{placed, number_of, values_of, sign_of, index_of_entry, is_finished, size_in, is_kept, drop_index, kept_in, dropped_in, rows_kept, rows_dropped, page_number, page_values, page_length}
+use Rattle.c_api.specs.Told.{placed, number_of, values_of, sign_of, index_of_entry, is_finished, given_word, given_index, none_given, size_in, row_size, is_kept, drop_index, sector_word, sector_size, in_sector, sector_index, kept_in, dropped_in, rows_kept, rows_dropped, page_number, page_values, page_length}
 
 -- ---- 1 0 is returned for an answer alone: no rule has the number 0
 
@@ -85,13 +85,13 @@ rule-positive Refusal.PhaseRule = omega arith
 rule-positive Refusal.OldWordSites = omega arith
 rule-positive Refusal.DigitRange = omega arith
 
-pub zero_number : (n : Number) → number_of (outcome_of_number n) ≡ 0 → answers (outcome_of_number n) ≡ true
-zero_number (Number.Value k) e = refl
-zero_number (Number.Refused why) e = absurd (omega (arith, rule-positive why))
+pub zero_number : (n : Result ℕ Refusal) → number_of (outcome_of n) ≡ 0 → answers (outcome_of n) ≡ true
+zero_number (Ok k) e = refl
+zero_number (Err why) e = absurd (omega (arith, rule-positive why))
 
-pub zero-verdict : (v : Verdict) → number_of (outcome_of_verdict v) ≡ 0 → answers (outcome_of_verdict v) ≡ true
-zero-verdict Verdict.Accepted e = refl
-zero-verdict (Verdict.Refused why) e = absurd (omega (arith, rule-positive why))
+pub zero-verdict : (v : Result (Unit {0}) Refusal) → number_of (outcome_of v) ≡ 0 → answers (outcome_of v) ≡ true
+zero-verdict (Ok tt) e = refl
+zero-verdict (Err why) e = absurd (omega (arith, rule-positive why))
 
 -- ---- 2 Four places suffice: nothing that a rule names is lost, nor where a line of a sheet stands before it
 
@@ -282,11 +282,19 @@ numbers = refl
 pub places : map (values_of {A = ℕ}) (refused 14 [] ∷ refused 10 (0 ∷ 2 ∷ 4 ∷ []) ∷ answer 7 ∷ []) ≡ (0 ∷ 0 ∷ 0 ∷ 0 ∷ []) ∷ (0 ∷ 2 ∷ 4 ∷ 0 ∷ []) ∷ (0 ∷ 0 ∷ 0 ∷ 0 ∷ []) ∷ []
 places = refl
 
-pub signs : map sign_of (Less ∷ Same ∷ Greater ∷ []) ≡ negsuc 0 ∷ pos 0 ∷ pos 1 ∷ []
+pub signs : map sign_of (Less ∷ Equal ∷ Greater ∷ []) ≡ negsuc 0 ∷ pos 0 ∷ pos 1 ∷ []
 signs = refl
 
 pub entries : (map index_of_entry (entry 3 ∷ finished ∷ []) ≡ 3 ∷ 0 ∷ []) × (map is_finished (entry 3 ∷ finished ∷ []) ≡ false ∷ true ∷ [])
 entries = (refl, refl)
+
+-- an entry as a step hands it back, its index 3 and its word 7, 0; and the end
+pub given-entries :
+    let three : EntryGiven = record { index = 3; word = 7 ∷ 0 ∷ [] } in
+    (map given_word (Some three ∷ None ∷ []) ≡ (7 ∷ 0 ∷ []) ∷ no_word ∷ [])
+    × (map given_index (Some three ∷ None ∷ []) ≡ 3 ∷ 0 ∷ [])
+    × (map none_given (Some three ∷ None ∷ []) ≡ false ∷ true ∷ [])
+given-entries = (refl, refl, refl)
 
 pub decisions :
     (map size_in (kept 4 ∷ dropped 2 ∷ []) ≡ 4 ∷ 0 ∷ [])
@@ -294,11 +302,23 @@ pub decisions :
     × (map (drop_index {A = ℕ}) (kept 4 ∷ dropped 2 ∷ []) ≡ 0 ∷ 2 ∷ [])
 decisions = (refl, refl, refl)
 
-pub projections : (kept_in (3, 2) ≡ 3) × (dropped_in (3, 2) ≡ 2)
+pub row-sizes : map row_size (kept (record { word = []; index = 3; size = 4 }) ∷ dropped 2 ∷ []) ≡ 4 ∷ 0 ∷ []
+row-sizes = refl
+
+-- a kept word as a call hands it back, its least word 7, 0 and its orbit of 4; and one that index 2 drops
+pub sectors :
+    let held = Sector.Kept (record { word = 7 ∷ 0 ∷ []; size = 4 }) ∷ Sector.Dropped 2 ∷ [] in
+    (map sector_word held ≡ (7 ∷ 0 ∷ []) ∷ no_word ∷ [])
+    × (map sector_size held ≡ 4 ∷ 0 ∷ [])
+    × (map in_sector held ≡ true ∷ false ∷ [])
+    × (map sector_index held ≡ 0 ∷ 2 ∷ [])
+sectors = (refl, refl, refl, refl)
+
+pub projections : let rows : Projection = record { kept = 3; dropped = 2 } in (kept_in rows ≡ 3) × (dropped_in rows ≡ 2)
 projections = (refl, refl)
 
 pub projected-rows :
-    (s : ProjectedSum) → (rows_kept s ≡ kept_in (counts_of s)) × (rows_dropped s ≡ dropped_in (counts_of s))
+    (s : ProjectedSum) → (rows_kept s ≡ kept_in (projection_of s)) × (rows_dropped s ≡ dropped_in (projection_of s))
 projected-rows s = (refl, refl)
 
 -- a sheet refused by 29 at line 4, at letter 2, its line of 13 bytes; a table of 84 bytes; a list too short

@@ -1,10 +1,15 @@
 -- What calls come to, as the numbers that C is handed.
-use Rattle.std.specs.Prelude.{ℕ, Bool, true, false, List, [], ◌∷◌, get_or, ℤ, pos, negsuc}
+use Rattle.std.specs.declared.cmp.Ordering.{Ordering}
+use Rattle.std.specs.declared.cmp.Ordering.TheVariants.{Less, Equal, Greater}
+use Rattle.std.specs.Prelude.{ℕ, Bool, true, false, List, [], ◌∷◌, get_or, ℤ, pos, negsuc, Option, Some, None}
 use Rattle.outcome.specs.Outcome.{Outcome, refused, answer}
-use Rattle.pauli_word.specs.declared.Ordering.{Ordering}
-use Rattle.pauli_word.specs.declared.Ordering.TheVariants.{Less, Same, Greater}
+use Rattle.orbit.specs.declared.Entry.{Entry as EntryGiven}
 use Rattle.orbit.specs.Calls.{Entry, entry, finished}
+use Rattle.row_lists.specs.Rows.{no_word}
+use Rattle.momentum.specs.declared.Sector.{Sector}
+use Rattle.momentum.specs.declared.Sector.TheVariants as Sector
 use Rattle.decisions.specs.Decisions.{Decision, kept, dropped, Row}
+use Rattle.project.specs.declared.Projection.{Projection}
 use Rattle.project.specs.Calls.{ProjectedSum}
 use Rattle.sheet_text.specs.Sheet.{Page, table_page, refusal_page}
 
@@ -25,7 +30,7 @@ values_of (answer a) = placed []
 -- how a word stands to another, as C's comparisons have it
 abbrev pub sign_of : Ordering → ℤ
 sign_of Less = negsuc 0
-sign_of Same = pos 0
+sign_of Equal = pos 0
 sign_of Greater = pos 1
 
 -- ---- walks
@@ -38,6 +43,20 @@ index_of_entry finished = 0
 abbrev pub is_finished : Entry → Bool
 is_finished (entry i) = false
 is_finished finished = true
+
+-- the parts of what a step hands back: of an entry its word and its index, at the end zeros
+abbrev pub given_word : Option EntryGiven → List ℕ
+given_word (Some e) = e.word
+given_word None = no_word
+
+abbrev pub given_index : Option EntryGiven → ℕ
+given_index (Some e) = e.index
+given_index None = 0
+
+-- that it is over
+abbrev pub none_given : Option EntryGiven → Bool
+none_given (Some e) = false
+none_given None = true
 
 -- ---- sectors
 
@@ -59,14 +78,32 @@ abbrev pub drop_index : {A : Type 0} → Decision A → ℕ
 drop_index (kept a) = 0
 drop_index (dropped i) = i
 
+-- the parts of a word in a sector as it is handed back: of a kept one the least word and the orbit size, and zeros of a dropped one
+abbrev pub sector_word : Sector → List ℕ
+sector_word (Sector.Kept found) = found.word
+sector_word (Sector.Dropped i) = no_word
+
+abbrev pub sector_size : Sector → ℕ
+sector_size (Sector.Kept found) = found.size
+sector_size (Sector.Dropped i) = 0
+
+-- that it is kept, and the index that drops it, 0 of a kept one
+abbrev pub in_sector : Sector → Bool
+in_sector (Sector.Kept found) = true
+in_sector (Sector.Dropped i) = false
+
+abbrev pub sector_index : Sector → ℕ
+sector_index (Sector.Kept found) = 0
+sector_index (Sector.Dropped i) = i
+
 -- ---- projected sums
 
 -- how many rows are kept, and how many dropped
-abbrev pub kept_in : ℕ × ℕ → ℕ
-kept_in rows = rows.0
+abbrev pub kept_in : Projection → ℕ
+kept_in rows = rows.kept
 
-abbrev pub dropped_in : ℕ × ℕ → ℕ
-dropped_in rows = rows.1
+abbrev pub dropped_in : Projection → ℕ
+dropped_in rows = rows.dropped
 
 abbrev pub rows_kept : ProjectedSum → ℕ
 rows_kept s = s.kept

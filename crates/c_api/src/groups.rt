@@ -6,7 +6,7 @@ ghost use Rattle.group.specs.Calls.{chain_outcome, ladder_outcome, torus2_outcom
 ghost use Rattle.c_api.specs.Told.{number_of, values_of};
 
 use crate::{VALUES, told};
-use permutation::{MAX_GENERATORS, TARGET_PLACES};
+use permutation::{Lent, MAX_GENERATORS, TARGET_PLACES};
 
 // The group of n sites by a buyer's generators, in one list, each its length and then its targets, and their declared orders.
 #[unsafe(no_mangle)]
@@ -163,11 +163,13 @@ pub extern "C" fn gomurin_order<'a>(
     ensures order { order.new ≡ or_else itself 0 (order_outcome (group_in sites generators orders.now targets.now)) }
     ensures values { values.new ≡ values_of (order_outcome (group_in sites generators orders.now targets.now)) }
 {
-    told::number(
-        group::lent::order(targets, orders, generators, sites),
-        order,
-        values,
-    )
+    let group = Lent {
+        sites,
+        generators,
+        orders,
+        targets,
+    };
+    told::number(group::order(&group), order, values)
 }
 
 // The phase modulus: the least common multiple of the orders.
@@ -184,11 +186,13 @@ pub extern "C" fn gomurin_phase_modulus<'a>(
     ensures modulus { modulus.new ≡ or_else itself 0 (modulus_outcome (group_in sites generators orders.now targets.now)) }
     ensures values { values.new ≡ values_of (modulus_outcome (group_in sites generators orders.now targets.now)) }
 {
-    told::number(
-        group::lent::phase_modulus(targets, orders, generators, sites),
-        modulus,
-        values,
-    )
+    let group = Lent {
+        sites,
+        generators,
+        orders,
+        targets,
+    };
+    told::number(group::phase_modulus(&group), modulus, values)
 }
 
 // The digits of an index, generator 0 first, into a list with a place for each generator.
@@ -206,10 +210,13 @@ pub extern "C" fn gomurin_counter_from_index<'a>(
     ensures counter { counter.new ≡ or_else itself counter.old (counter_outcome (group_in sites generators orders.now targets.now) index (length counter.old)) }
     ensures values { values.new ≡ values_of (counter_outcome (group_in sites generators orders.now targets.now) index (length counter.old)) }
 {
-    told::verdict(
-        group::lent::counter_from_index(targets, orders, generators, sites, index, counter),
-        values,
-    )
+    let group = Lent {
+        sites,
+        generators,
+        orders,
+        targets,
+    };
+    told::verdict(&group::counter_from_index(&group, index, counter), values)
 }
 
 // The index of a counter: a digit for each generator, each below its generator's order, generator 0 first and fastest.
@@ -227,11 +234,13 @@ pub extern "C" fn gomurin_index_from_counter<'a>(
     ensures index { index.new ≡ or_else itself 0 (index_outcome (group_in sites generators orders.now targets.now) counter.now) }
     ensures values { values.new ≡ values_of (index_outcome (group_in sites generators orders.now targets.now) counter.now) }
 {
-    told::number(
-        group::lent::index_from_counter(targets, orders, generators, sites, counter),
-        index,
-        values,
-    )
+    let group = Lent {
+        sites,
+        generators,
+        orders,
+        targets,
+    };
+    told::number(group::index_from_counter(&group, counter), index, values)
 }
 
 // The index of the inverse element.
@@ -249,9 +258,11 @@ pub extern "C" fn gomurin_invert_index<'a>(
     ensures inverse { inverse.new ≡ or_else itself 0 (invert_outcome (group_in sites generators orders.now targets.now) index) }
     ensures values { values.new ≡ values_of (invert_outcome (group_in sites generators orders.now targets.now) index) }
 {
-    told::number(
-        group::lent::invert_index(targets, orders, generators, sites, index),
-        inverse,
-        values,
-    )
+    let group = Lent {
+        sites,
+        generators,
+        orders,
+        targets,
+    };
+    told::number(group::invert_index(&group, index), inverse, values)
 }

@@ -12,9 +12,10 @@ ghost use Rattle.group.specs.Value.{group_in};
 ghost use Rattle.c_api.specs.Told.{number_of, values_of, index_of_entry, is_finished};
 
 use crate::{VALUES, told};
-use orbit::{Step, Walk};
+use orbit::CanonicalIndex;
+use orbit::lent::Beginning;
 use pauli_word::WORD_BYTES;
-use permutation::{MAX_GENERATORS, TARGET_PLACES};
+use permutation::{Lent, MAX_GENERATORS, TARGET_PLACES};
 
 // The least word of a word's orbit.
 #[unsafe(no_mangle)]
@@ -32,11 +33,13 @@ pub extern "C" fn gomurin_canonicalize<'a>(
     ensures least { least.new ≡ or_else bytes_of no_word (canonicalize_outcome (group_in sites generators orders.now targets.now) n word.now) }
     ensures values { values.new ≡ values_of (canonicalize_outcome (group_in sites generators orders.now targets.now) n word.now) }
 {
-    let found = orbit::lent::canonicalize(targets, orders, generators, sites, n, word);
-    let bytes = found.word;
-    *least = bytes;
-    let answer = found.answer;
-    told::verdict(answer, values)
+    let group = Lent {
+        sites,
+        generators,
+        orders,
+        targets,
+    };
+    told::word(orbit::canonicalize(&group, n, word), least, values)
 }
 
 // The same, and the index that leads from the least word back to the word: the inverse of the smallest one that reaches it.
@@ -57,11 +60,21 @@ pub extern "C" fn gomurin_canonicalize_with_index<'a>(
     ensures index { index.new ≡ or_else index_of 0 (with_index_outcome (group_in sites generators orders.now targets.now) n word.now) }
     ensures values { values.new ≡ values_of (with_index_outcome (group_in sites generators orders.now targets.now) n word.now) }
 {
-    let found = orbit::lent::canonicalize_with_index(targets, orders, generators, sites, n, word);
+    let group = Lent {
+        sites,
+        generators,
+        orders,
+        targets,
+    };
+    let answer = orbit::canonicalize_with_index(&group, n, word);
+    let found = answer.unwrap_or(CanonicalIndex {
+        word: [0u8; WORD_BYTES],
+        index: 0,
+    });
     let bytes = found.word;
     *least = bytes;
-    let answer = found.answer;
-    told::number(answer, index, values)
+    *index = found.index;
+    told::verdict(&answer, values)
 }
 
 // The same with the counter of that index, into a list with a place for each generator.
@@ -82,13 +95,14 @@ pub extern "C" fn gomurin_canonicalize_with_shift<'a>(
     ensures counter { counter.new ≡ or_else shift_of counter.old (with_shift_outcome (group_in sites generators orders.now targets.now) n word.now (length counter.old)) }
     ensures values { values.new ≡ values_of (with_shift_outcome (group_in sites generators orders.now targets.now) n word.now (length counter.old)) }
 {
-    let found = orbit::lent::canonicalize_with_shift(
-        targets, orders, generators, sites, n, word, counter,
-    );
-    let bytes = found.word;
-    *least = bytes;
-    let answer = found.answer;
-    told::verdict(answer, values)
+    let group = Lent {
+        sites,
+        generators,
+        orders,
+        targets,
+    };
+    let answer = orbit::canonicalize_with_shift(&group, n, word, counter);
+    told::word(answer, least, values)
 }
 
 // The word that an index makes of a word: moved by each generator as often as its digit says.
@@ -108,11 +122,13 @@ pub extern "C" fn gomurin_word_at_index<'a>(
     ensures made { made.new ≡ or_else bytes_of no_word (word_at_outcome (group_in sites generators orders.now targets.now) n word.now index) }
     ensures values { values.new ≡ values_of (word_at_outcome (group_in sites generators orders.now targets.now) n word.now index) }
 {
-    let found = orbit::lent::word_at_index(targets, orders, generators, sites, n, word, index);
-    let bytes = found.word;
-    *made = bytes;
-    let answer = found.answer;
-    told::verdict(answer, values)
+    let group = Lent {
+        sites,
+        generators,
+        orders,
+        targets,
+    };
+    told::word(orbit::word_at_index(&group, n, word, index), made, values)
 }
 
 // The least word of each row's orbit, and the index that leads back. The words are all of one form; the output lists have as many rows, the words in full.
@@ -132,16 +148,14 @@ pub extern "C" fn gomurin_canonicalize_words<'a>(
     ensures indices { indices.new ≡ or_else indices_of indices.old (words_outcome (group_in sites generators orders.now targets.now) words.now (length indices.old) (length representatives.old)) }
     ensures values { values.new ≡ values_of (words_outcome (group_in sites generators orders.now targets.now) words.now (length indices.old) (length representatives.old)) }
 {
+    let group = Lent {
+        sites,
+        generators,
+        orders,
+        targets,
+    };
     told::verdict(
-        orbit::lent::canonicalize_words(
-            targets,
-            orders,
-            generators,
-            sites,
-            words,
-            representatives,
-            indices,
-        ),
+        &orbit::canonicalize_words(&group, words, representatives, indices),
         values,
     )
 }
@@ -162,10 +176,13 @@ pub extern "C" fn gomurin_orbit_list<'a>(
     ensures list { list.new ≡ or_else encode_all list.old (orbit_list_outcome (group_in sites generators orders.now targets.now) n word.now (length list.old)) }
     ensures values { values.new ≡ values_of (orbit_list_outcome (group_in sites generators orders.now targets.now) n word.now (length list.old)) }
 {
-    told::verdict(
-        orbit::lent::orbit_list(targets, orders, generators, sites, n, word, list),
-        values,
-    )
+    let group = Lent {
+        sites,
+        generators,
+        orders,
+        targets,
+    };
+    told::verdict(&orbit::orbit_list(&group, n, word, list), values)
 }
 
 // Begins a walk over a word's orbit, from the group and the word: the word and the index of its next step.
@@ -186,12 +203,23 @@ pub extern "C" fn gomurin_orbit<'a>(
     ensures index { index.new ≡ (or_else itself no_walk (begin_outcome (group_in sites generators orders.now targets.now) n word.now)).index }
     ensures values { values.new ≡ values_of (begin_outcome (group_in sites generators orders.now targets.now) n word.now) }
 {
-    let begun = orbit::lent::orbit(targets, orders, generators, sites, n, word);
-    let bytes = begun.at;
-    *at = bytes;
+    let group = Lent {
+        sites,
+        generators,
+        orders,
+        targets,
+    };
+    let answer = orbit::lent::orbit(&group, n, word);
+    let beside = orbit::steps::no_walk();
+    let bytes = beside.word;
+    let begun = answer.unwrap_or(Beginning {
+        at: bytes,
+        index: beside.index,
+    });
+    let start = begun.at;
+    *at = start;
     *index = begun.index;
-    let answer = begun.answer;
-    told::verdict(answer, values)
+    told::verdict(&answer, values)
 }
 
 // A step of a walk: the entry's word and index, and the walk after it. After the last entry it answers finished and changes nothing of the walk.
@@ -216,12 +244,17 @@ pub extern "C" fn gomurin_next<'a>(
     ensures finished { finished.new ≡ or_else is_finished false (next_outcome (walk_in (group_in sites generators orders.now targets.now) at.old index.old)) }
     ensures values { values.new ≡ values_of (next_outcome (walk_in (group_in sites generators orders.now targets.now) at.old index.old)) }
 {
-    let moved = orbit::lent::next(targets, orders, generators, sites, *at, *index);
-    let bytes = moved.at;
-    *at = bytes;
-    *index = moved.index;
-    let given = moved.word;
-    *word = given;
+    let group = Lent {
+        sites,
+        generators,
+        orders,
+        targets,
+    };
+    let moved = orbit::lent::next(&group, *at, *index);
     let answer = moved.answer;
-    told::step(answer, entry, finished, values)
+    let number = told::step(answer, word, entry, finished, values);
+    let after = moved.at;
+    *at = after;
+    *index = moved.index;
+    number
 }

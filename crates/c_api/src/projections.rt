@@ -7,7 +7,7 @@ ghost use Rattle.group.specs.Value.{group_in};
 ghost use Rattle.c_api.specs.Told.{number_of, values_of, rows_kept, rows_dropped};
 
 use crate::{VALUES, told};
-use permutation::{MAX_GENERATORS, TARGET_PLACES};
+use permutation::{Lent, MAX_GENERATORS, TARGET_PLACES};
 use phases::PHASES;
 
 // Projects a sum onto the sector of a mode list, by a phase table: rows of a word, all in one form, and a whole coefficient each. The three output lists have as
@@ -39,13 +39,16 @@ pub extern "C" fn gomurin_project_pauli_sum<'a>(
     ensures dropped { dropped.new ≡ or_else rows_dropped 0 (project_outcome (table_of table_cosines.now table_sines.now) (group_in sites generators orders.now targets.now) modes.now words.now coefficients.now (length representatives.old) (length cosines.old) (length sines.old)) }
     ensures values { values.new ≡ values_of (project_outcome (table_of table_cosines.now table_sines.now) (group_in sites generators orders.now targets.now) modes.now words.now coefficients.now (length representatives.old) (length cosines.old) (length sines.old)) }
 {
-    let table = told::table_in(table_cosines, table_sines);
-    let answer = project::lent::project_pauli_sum(
-        table,
-        targets,
-        orders,
-        generators,
+    let group = Lent {
         sites,
+        generators,
+        orders,
+        targets,
+    };
+    let table = told::table_in(table_cosines, table_sines);
+    let answer = project::project_pauli_sum(
+        table,
+        &group,
         modes,
         words,
         coefficients,

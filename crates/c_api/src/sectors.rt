@@ -11,7 +11,7 @@ ghost use Rattle.c_api.specs.Told.{number_of, values_of, row_size, is_kept, drop
 
 use crate::{VALUES, told};
 use pauli_word::WORD_BYTES;
-use permutation::{MAX_GENERATORS, TARGET_PLACES};
+use permutation::{Lent, MAX_GENERATORS, TARGET_PLACES};
 
 // The numerator of a counter: the sum of (k c mod o) (M / o) over the generators, mod M, with M the phase modulus. Modes and digits may be any; they are
 // reduced.
@@ -30,8 +30,14 @@ pub extern "C" fn gomurin_character_numerator<'a>(
     ensures numerator { numerator.new ≡ or_else itself 0 (numerator_outcome (group_in sites generators orders.now targets.now) modes.now counter.now) }
     ensures values { values.new ≡ values_of (numerator_outcome (group_in sites generators orders.now targets.now) modes.now counter.now) }
 {
+    let group = Lent {
+        sites,
+        generators,
+        orders,
+        targets,
+    };
     told::number(
-        momentum::lent::character_numerator(targets, orders, generators, sites, modes, counter),
+        momentum::character_numerator(&group, modes, counter),
         numerator,
         values,
     )
@@ -52,10 +58,13 @@ pub extern "C" fn gomurin_character_table<'a>(
     ensures list { list.new ≡ or_else itself list.old (table_outcome (group_in sites generators orders.now targets.now) modes.now (length list.old)) }
     ensures values { values.new ≡ values_of (table_outcome (group_in sites generators orders.now targets.now) modes.now (length list.old)) }
 {
-    told::verdict(
-        momentum::lent::character_table(targets, orders, generators, sites, modes, list),
-        values,
-    )
+    let group = Lent {
+        sites,
+        generators,
+        orders,
+        targets,
+    };
+    told::verdict(&momentum::character_table(&group, modes, list), values)
 }
 
 // Whether modes keep a word. A kept word comes with the least word of its orbit, the counter of the index that leads from there back to the word, into a
@@ -85,13 +94,14 @@ pub extern "C" fn gomurin_canonicalize_in_sector<'a>(
     ensures index { dropped_by.new ≡ or_else drop_index 0 (sector_outcome (group_in sites generators orders.now targets.now) n word.now modes.now (length counter.old)) }
     ensures values { values.new ≡ values_of (sector_outcome (group_in sites generators orders.now targets.now) n word.now modes.now (length counter.old)) }
 {
-    let found = momentum::lent::canonicalize_in_sector(
-        targets, orders, generators, sites, n, word, modes, counter,
-    );
-    let bytes = found.word;
-    *least = bytes;
-    let answer = found.answer;
-    told::sector(answer, size, kept, dropped_by, values)
+    let group = Lent {
+        sites,
+        generators,
+        orders,
+        targets,
+    };
+    let answer = momentum::canonicalize_in_sector(&group, n, word, modes, counter);
+    told::sector(answer, least, size, kept, dropped_by, values)
 }
 
 // Whether modes keep the words of rows. The words are all of one form; the output lists have as many rows, the words in full. A kept row comes with the
@@ -116,18 +126,14 @@ pub extern "C" fn gomurin_sector_words<'a>(
     ensures sizes { sizes.new ≡ or_else sector_sizes sizes.old (sector_words_outcome (group_in sites generators orders.now targets.now) modes.now words.now (length indices.old) (length representatives.old) (length sizes.old)) }
     ensures values { values.new ≡ values_of (sector_words_outcome (group_in sites generators orders.now targets.now) modes.now words.now (length indices.old) (length representatives.old) (length sizes.old)) }
 {
+    let group = Lent {
+        sites,
+        generators,
+        orders,
+        targets,
+    };
     told::verdict(
-        momentum::lent::sector_words(
-            targets,
-            orders,
-            generators,
-            sites,
-            modes,
-            words,
-            representatives,
-            indices,
-            sizes,
-        ),
+        &momentum::sector_words(&group, modes, words, representatives, indices, sizes),
         values,
     )
 }

@@ -6,7 +6,7 @@ ghost use Rattle.group.specs.Value.{group_in};
 ghost use Rattle.c_api.specs.Told.{number_of, values_of};
 
 use crate::{VALUES, told};
-use permutation::{MAX_GENERATORS, TARGET_PLACES};
+use permutation::{Lent, MAX_GENERATORS, TARGET_PLACES};
 
 // Folds a sum onto representatives: rows of a word, all in one form, and a coefficient each. The three output lists have as many rows; each output row is a
 // representative, the sum of the coefficients of the rows that have it, added to 0.0 in input order, and how many rows these are, in rising order of the
@@ -32,11 +32,14 @@ pub extern "C" fn gomurin_canonicalize_pauli_sum<'a>(
     ensures rows { rows.new ≡ or_else length 0 (sum_outcome (group_in sites generators orders.now targets.now) words.now coefficients.now representatives.old sums.old counts.old) }
     ensures values { values.new ≡ values_of (sum_outcome (group_in sites generators orders.now targets.now) words.now coefficients.now representatives.old sums.old counts.old) }
 {
-    let answer = merge::lent::canonicalize_pauli_sum(
-        targets,
-        orders,
-        generators,
+    let group = Lent {
         sites,
+        generators,
+        orders,
+        targets,
+    };
+    let answer = merge::canonicalize_pauli_sum(
+        &group,
         words,
         coefficients,
         representatives,

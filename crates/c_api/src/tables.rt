@@ -30,9 +30,8 @@ pub extern "C" fn gomurin_read_phase_table(
     ensures sines { sines.new ≡ (table_after (file_outcome file.now)).sines }
     ensures values { values.new ≡ values_of (file_outcome file.now) }
 {
-    let read = phase_file::read_phase_table(file);
-    let table = read.table;
+    let answer = phase_file::read_phase_table(file);
+    let table = answer.unwrap_or(phases::phase_table());
     told::table(table, cosines, sines);
-    let answer = read.answer;
-    told::verdict(answer, values)
+    told::verdict(&answer, values)
 }

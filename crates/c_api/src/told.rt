@@ -1,17 +1,17 @@
 // What calls come to, as numbers: 0 or the number of a rule, and what the rule names.
 ghost use Rattle.std.specs.Prelude.{◌≡◌, false, [], ◌∷◌};
-ghost use Rattle.outcome.specs.Outcome.{rule_number, rule_values, outcome_of_number, outcome_of_verdict, or_else, itself};
-ghost use Rattle.orbit.specs.Calls.{outcome_of_step};
-ghost use Rattle.momentum.specs.Calls.{outcome_of_sector};
+ghost use Rattle.outcome.specs.Outcome.{rule_number, rule_values, outcome_of, or_else, itself};
+ghost use Rattle.group.specs.Value.{no_group};
+ghost use Rattle.row_lists.specs.Rows.{no_word};
 ghost use Rattle.phases.specs.Rules.{table_of};
-ghost use Rattle.project.specs.Calls.{outcome_of_projection};
-ghost use Rattle.c_api.specs.Told.{placed, number_of, values_of, index_of_entry, is_finished, size_in, is_kept, drop_index, kept_in, dropped_in};
+ghost use Rattle.c_api.specs.Told.{placed, number_of, values_of, given_word, given_index, none_given, sector_word, sector_size, in_sector, sector_index, kept_in, dropped_in};
 
 use crate::VALUES;
-use group::Made;
+use group::Group;
 use momentum::Sector;
-use orbit::Step;
-use outcome::{Number, Refusal, Verdict};
+use orbit::Entry;
+use outcome::Refusal;
+use pauli_word::WORD_BYTES;
 use permutation::{MAX_GENERATORS, TARGET_PLACES};
 use phases::{PHASES, PhaseTable};
 use project::Projection;
@@ -111,140 +111,177 @@ pub fn answered(values: &mut [usize; VALUES]) -> usize
     0
 }
 
-// What checks come to.
-pub fn verdict(answer: Verdict, values: &mut [usize; VALUES]) -> usize
-    ensures number { result ≡ number_of (outcome_of_verdict answer) }
-    ensures values { values.new ≡ values_of (outcome_of_verdict answer) }
+// What a call comes to, whatever its answer is.
+pub fn verdict<T>(answer: &Result<T, Refusal>, values: &mut [usize; VALUES]) -> usize
+    ensures number { result ≡ number_of (outcome_of answer.now) }
+    ensures values { values.new ≡ values_of (outcome_of answer.now) }
 {
-    match answer {
-        Verdict::Accepted => answered(values),
-        Verdict::Refused(why) => refused(why, values),
+    match *answer {
+        Ok(_) => answered(values),
+        Err(why) => refused(why, values),
     }
 }
 
-// A number, or 0 in its place beside a refusal.
-pub fn number(answer: Number, value: &mut usize, values: &mut [usize; VALUES]) -> usize
-    ensures number { result ≡ number_of (outcome_of_number answer) }
-    ensures value { value.new ≡ or_else itself 0 (outcome_of_number answer) }
-    ensures values { values.new ≡ values_of (outcome_of_number answer) }
+// An answer in its place, where something else stands beside a refusal.
+pub fn value<T: Copy>(
+    answer: Result<T, Refusal>,
+    beside: T,
+    place: &mut T,
+    values: &mut [usize; VALUES],
+) -> usize
+    ensures number { result ≡ number_of (outcome_of answer) }
+    ensures place { place.new ≡ or_else itself beside (outcome_of answer) }
+    ensures values { values.new ≡ values_of (outcome_of answer) }
 {
     match answer {
-        Number::Value(k) => {
-            *value = k;
+        Ok(given) => {
+            *place = given;
             answered(values)
         }
-        Number::Refused(why) => {
-            *value = 0;
+        Err(why) => {
+            *place = beside;
             refused(why, values)
         }
     }
 }
 
-// A group in its four parts.
+// A number, or 0 in its place beside a refusal.
+pub fn number(
+    answer: Result<usize, Refusal>,
+    place: &mut usize,
+    values: &mut [usize; VALUES],
+) -> usize
+    ensures number { result ≡ number_of (outcome_of answer) }
+    ensures value { place.new ≡ or_else itself 0 (outcome_of answer) }
+    ensures values { values.new ≡ values_of (outcome_of answer) }
+{
+    value(answer, 0, place, values)
+}
+
+// A word, or zeros in its place beside a refusal.
+pub fn word(
+    answer: Result<[u8; WORD_BYTES], Refusal>,
+    place: &mut [u8; WORD_BYTES],
+    values: &mut [usize; VALUES],
+) -> usize
+    ensures number { result ≡ number_of (outcome_of answer) }
+    ensures word { place.new ≡ or_else itself no_word (outcome_of answer) }
+    ensures values { values.new ≡ values_of (outcome_of answer) }
+{
+    value(answer, [0u8; WORD_BYTES], place, values)
+}
+
+// A group in its four parts, which beside a refusal are no group's.
 pub fn made(
-    built: Made,
+    built: Result<Group, Refusal>,
     sites: &mut usize,
     generators: &mut usize,
     orders: &mut [u32; MAX_GENERATORS],
     targets: &mut [u16; TARGET_PLACES],
     values: &mut [usize; VALUES],
 ) -> usize
-    ensures number { result ≡ number_of (outcome_of_verdict built.answer) }
-    ensures sites { sites.new ≡ built.group.sites }
-    ensures generators { generators.new ≡ built.group.generators }
-    ensures orders { orders.new ≡ built.group.orders }
-    ensures targets { targets.new ≡ built.group.targets }
-    ensures values { values.new ≡ values_of (outcome_of_verdict built.answer) }
+    ensures number { result ≡ number_of (outcome_of built) }
+    ensures sites { sites.new ≡ (or_else itself no_group (outcome_of built)).sites }
+    ensures generators { generators.new ≡ (or_else itself no_group (outcome_of built)).generators }
+    ensures orders { orders.new ≡ (or_else itself no_group (outcome_of built)).orders }
+    ensures targets { targets.new ≡ (or_else itself no_group (outcome_of built)).targets }
+    ensures values { values.new ≡ values_of (outcome_of built) }
 {
-    let value = built.group;
-    *sites = value.sites;
-    *generators = value.generators;
-    let held = value.orders;
+    let group = built.unwrap_or(group::inner::no_group());
+    *sites = group.sites;
+    *generators = group.generators;
+    let held = group.orders;
     *orders = held;
-    let sent = value.targets;
+    let sent = group.targets;
     *targets = sent;
-    let answer = built.answer;
-    verdict(answer, values)
+    verdict(&built, values)
 }
 
-// A step of a walk: its entry's index, or that the walk is over.
+// A step of a walk: its entry, or that the walk is over.
 pub fn step(
-    answer: Step,
+    answer: Result<Option<Entry>, Refusal>,
+    word: &mut [u8; WORD_BYTES],
     entry: &mut usize,
     finished: &mut bool,
     values: &mut [usize; VALUES],
 ) -> usize
-    ensures number { result ≡ number_of (outcome_of_step answer) }
-    ensures entry { entry.new ≡ or_else index_of_entry 0 (outcome_of_step answer) }
-    ensures finished { finished.new ≡ or_else is_finished false (outcome_of_step answer) }
-    ensures values { values.new ≡ values_of (outcome_of_step answer) }
+    ensures number { result ≡ number_of (outcome_of answer) }
+    ensures word { word.new ≡ or_else given_word no_word (outcome_of answer) }
+    ensures entry { entry.new ≡ or_else given_index 0 (outcome_of answer) }
+    ensures finished { finished.new ≡ or_else none_given false (outcome_of answer) }
+    ensures values { values.new ≡ values_of (outcome_of answer) }
 {
+    *word = [0u8; WORD_BYTES];
     *entry = 0;
     *finished = false;
     match answer {
-        Step::Entry(i) => {
-            *entry = i;
+        Ok(Some(given)) => {
+            let bytes = given.word;
+            *word = bytes;
+            *entry = given.index;
             answered(values)
         }
-        Step::Finished => {
+        Ok(None) => {
             *finished = true;
             answered(values)
         }
-        Step::Refused(why) => refused(why, values),
+        Err(why) => refused(why, values),
     }
 }
 
-// A word in a sector: its orbit's size where it is kept, and the index that drops it where it is not.
+// A word in a sector: the least word and the orbit size of one that is kept, and the index that drops one that is not.
 pub fn sector(
-    answer: Sector,
+    answer: Result<Sector, Refusal>,
+    word: &mut [u8; WORD_BYTES],
     size: &mut usize,
     kept: &mut bool,
     dropped_by: &mut usize,
     values: &mut [usize; VALUES],
 ) -> usize
-    ensures number { result ≡ number_of (outcome_of_sector answer) }
-    ensures size { size.new ≡ or_else size_in 0 (outcome_of_sector answer) }
-    ensures kept { kept.new ≡ or_else is_kept false (outcome_of_sector answer) }
-    ensures index { dropped_by.new ≡ or_else drop_index 0 (outcome_of_sector answer) }
-    ensures values { values.new ≡ values_of (outcome_of_sector answer) }
+    ensures number { result ≡ number_of (outcome_of answer) }
+    ensures word { word.new ≡ or_else sector_word no_word (outcome_of answer) }
+    ensures size { size.new ≡ or_else sector_size 0 (outcome_of answer) }
+    ensures kept { kept.new ≡ or_else in_sector false (outcome_of answer) }
+    ensures index { dropped_by.new ≡ or_else sector_index 0 (outcome_of answer) }
+    ensures values { values.new ≡ values_of (outcome_of answer) }
 {
+    *word = [0u8; WORD_BYTES];
     *size = 0;
     *kept = false;
     *dropped_by = 0;
     match answer {
-        Sector::Kept(words) => {
-            *size = words;
+        Ok(Sector::Kept(found)) => {
+            let bytes = found.word;
+            *word = bytes;
+            *size = found.size;
             *kept = true;
             answered(values)
         }
-        Sector::Dropped(index) => {
+        Ok(Sector::Dropped(index)) => {
             *dropped_by = index;
             answered(values)
         }
-        Sector::Refused(why) => refused(why, values),
+        Err(why) => refused(why, values),
     }
 }
 
 // A projected sum: how many rows are kept, and how many dropped.
 pub fn projection(
-    answer: Projection,
+    answer: Result<Projection, Refusal>,
     kept: &mut usize,
     dropped: &mut usize,
     values: &mut [usize; VALUES],
 ) -> usize
-    ensures number { result ≡ number_of (outcome_of_projection answer) }
-    ensures kept { kept.new ≡ or_else kept_in 0 (outcome_of_projection answer) }
-    ensures dropped { dropped.new ≡ or_else dropped_in 0 (outcome_of_projection answer) }
-    ensures values { values.new ≡ values_of (outcome_of_projection answer) }
+    ensures number { result ≡ number_of (outcome_of answer) }
+    ensures kept { kept.new ≡ or_else kept_in 0 (outcome_of answer) }
+    ensures dropped { dropped.new ≡ or_else dropped_in 0 (outcome_of answer) }
+    ensures values { values.new ≡ values_of (outcome_of answer) }
 {
-    *kept = 0;
-    *dropped = 0;
-    match answer {
-        Projection::Rows(inside, outside) => {
-            *kept = inside;
-            *dropped = outside;
-            answered(values)
-        }
-        Projection::Refused(why) => refused(why, values),
-    }
+    let rows = answer.unwrap_or(Projection {
+        kept: 0,
+        dropped: 0,
+    });
+    *kept = rows.kept;
+    *dropped = rows.dropped;
+    verdict(&answer, values)
 }

@@ -5,7 +5,8 @@ ghost use Rattle.pauli_word.specs.Calls.{from_text_outcome, from_text_bytes, to_
 ghost use Rattle.c_api.specs.Told.{number_of, values_of, sign_of};
 
 use crate::{VALUES, told};
-use pauli_word::{Comparison, MAX_SITES, Ordering, WORD_BYTES};
+use pauli_word::{MAX_SITES, TextWord, WORD_BYTES, WordText};
+use std::cmp::Ordering;
 
 // The word that a text writes, a letter a byte, and its site count.
 #[unsafe(no_mangle)]
@@ -20,11 +21,15 @@ pub extern "C" fn gomurin_from_text(
     ensures word { word.new ≡ from_text_bytes text.now }
     ensures values { values.new ≡ values_of (from_text_outcome text.now) }
 {
-    let read = pauli_word::from_text(text);
+    let answer = pauli_word::from_text(text);
+    let read = answer.unwrap_or(TextWord {
+        sites: 0,
+        word: [0u8; WORD_BYTES],
+    });
     let bytes = read.word;
     *word = bytes;
-    let answer = read.answer;
-    told::number(answer, sites, values)
+    *sites = read.sites;
+    told::verdict(&answer, values)
 }
 
 // The text of a word of n sites, a letter a byte and zeros after it, and how many letters.
@@ -41,11 +46,15 @@ pub extern "C" fn gomurin_to_text(
     ensures text { text.new ≡ to_text_bytes n word.now }
     ensures values { values.new ≡ values_of (to_text_outcome n word.now) }
 {
-    let written = pauli_word::to_text(n, word);
+    let answer = pauli_word::to_text(n, word);
+    let written = answer.unwrap_or(WordText {
+        letters: 0,
+        text: [0u8; MAX_SITES],
+    });
     let bytes = written.text;
     *text = bytes;
-    let answer = written.answer;
-    told::number(answer, letters, values)
+    *letters = written.letters;
+    told::verdict(&answer, values)
 }
 
 // The weight of a word of n sites: the number of sites whose letter is other than I.
@@ -78,11 +87,11 @@ pub extern "C" fn gomurin_compare(
     ensures values { values.new ≡ values_of (compare_outcome n a.now b.now) }
 {
     match pauli_word::compare(n, a, b) {
-        Comparison::Order(found) => {
+        Ok(found) => {
             *order = sign_of(found);
             told::answered(values)
         }
-        Comparison::Refused(why) => {
+        Err(why) => {
             *order = 0;
             told::refused(why, values)
         }
@@ -94,7 +103,7 @@ fn sign_of(order: Ordering) -> i32
 {
     match order {
         Ordering::Less => -1,
-        Ordering::Same => 0,
+        Ordering::Equal => 0,
         Ordering::Greater => 1,
     }
 }

@@ -1,139 +1,95 @@
 // The calls that fill a counter list, here one of nines before.
-use crate::orbits;
-use crate::sectors::MODE_ROOM;
-use case_text::fields::Args;
-use case_text::kinds::{COUNTER, SECTOR, WITH_SHIFT};
-use group::Group;
-use lines::{answers, lists};
+use crate::modes::MODE_ROOM;
+use crate::{InForce, orbits};
+use case_text::commands::{Filled, Filling};
 use momentum::Sector;
-use std::alloc::AllocError;
+use outcome::Refusal;
+use pauli_word::WORD_BYTES;
+use std::io;
+use std::io::Write;
 
-// `counter I K` has an index before the places of its list.
-pub fn answer(
-    out: &mut Vec<u8>,
-    g: Group,
-    n: usize,
-    word: &[u8],
-    modes: &[i32],
-    kind: usize,
-    args: Args,
-) -> Result<(), AllocError> {
-    let a = args.list[0];
-    let b = args.list[1];
+pub fn answer(out: &mut Vec<u8>, given: &InForce<'_>, filled: Filled) -> io::Result<()> {
     let mut list = [9u32; MODE_ROOM];
-    let k = places(kind, a, b);
-    if k <= MODE_ROOM {
-        in_list(out, g, n, word, modes, kind, a, &mut list[0..k])
-    } else {
-        lines::byte(out, b'?')
+    match list.get_mut(..filled.places) {
+        Some(counter) => call(out, given, filled.call, counter),
+        None => write!(out, "?"),
     }
 }
 
-fn places(kind: usize, a: usize, b: usize) -> usize {
-    if kind == COUNTER { b } else { a }
-}
-
-fn in_list(
+// The answer, and what the list holds after the call.
+fn call(
     out: &mut Vec<u8>,
-    g: Group,
-    n: usize,
-    word: &[u8],
-    modes: &[i32],
-    kind: usize,
-    index: usize,
-    list: &mut [u32],
-) -> Result<(), AllocError> {
-    match kind {
-        COUNTER => counter(out, g, index, list),
-        WITH_SHIFT => with_shift(out, g, n, word, list),
-        SECTOR => sector(out, g, n, word, modes, list),
-        _ => beside(out, g, n, word, modes, list),
+    given: &InForce<'_>,
+    call: Filling,
+    counter: &mut [u32],
+) -> io::Result<()> {
+    let InForce {
+        group,
+        n,
+        word,
+        modes,
+    } = *given;
+    match call {
+        Filling::Counter(index) => {
+            let answer = group::counter_from_index(&group, index, counter);
+            lines::verdict(out, answer, b"done")?;
+        }
+        Filling::WithShift => {
+            let answer = orbit::canonicalize_with_shift(&group, n, word, counter);
+            orbits::spell(out, n, answer)?;
+        }
+        Filling::Sector => {
+            let answer = momentum::canonicalize_in_sector(&group, n, word, modes, counter);
+            sector(out, n, answer)?;
+        }
+        Filling::Beside => return beside(out, given, counter),
     }
+    write!(out, ":")?;
+    lines::list(out, counter)
 }
 
-fn counter(out: &mut Vec<u8>, g: Group, index: usize, list: &mut [u32]) -> Result<(), AllocError> {
-    answers::verdict(out, group::counter_from_index(g, index, list), b"done")?;
-    after(out, list)
-}
-
-fn with_shift(
-    out: &mut Vec<u8>,
-    g: Group,
-    n: usize,
-    word: &[u8],
-    list: &mut [u32],
-) -> Result<(), AllocError> {
-    let found = orbit::canonicalize_with_shift(g, n, word, list);
-    let answer = found.answer;
-    let least = found.word;
-    orbits::spelled(out, answer, n, &least)?;
-    after(out, list)
-}
-
-fn sector(
-    out: &mut Vec<u8>,
-    g: Group,
-    n: usize,
-    word: &[u8],
-    modes: &[i32],
-    list: &mut [u32],
-) -> Result<(), AllocError> {
-    let found = momentum::canonicalize_in_sector(g, n, word, modes, list);
-    let answer = found.answer;
-    let least = found.word;
-    told(out, answer, n, &least)?;
-    after(out, list)
-}
-
-// What the list holds after the call.
-fn after(out: &mut Vec<u8>, list: &[u32]) -> Result<(), AllocError> {
-    lines::byte(out, b':')?;
-    lists::digits(out, list)
-}
-
-fn told(out: &mut Vec<u8>, answer: Sector, n: usize, least: &[u8]) -> Result<(), AllocError> {
+fn sector(out: &mut Vec<u8>, n: usize, answer: Result<Sector, Refusal>) -> io::Result<()> {
     match answer {
-        Sector::Kept(size) => {
-            lines::text(out, b"kept ")?;
-            lines::number(out, size)?;
-            lines::byte(out, b' ')?;
-            lines::spell(out, n, least)
+        Ok(Sector::Kept(kept)) => {
+            let size = kept.size;
+            write!(out, "kept {size} ")?;
+            lines::spell(out, n, &kept.word)
         }
-        Sector::Dropped(index) => {
-            lines::text(out, b"dropped ")?;
-            lines::number(out, index)
-        }
-        Sector::Refused(why) => answers::refused(out, why),
+        Ok(Sector::Dropped(index)) => write!(out, "dropped {index}"),
+        Err(why) => lines::refusal(out, why),
     }
 }
 
-// The words that stand beside the answers of the four calls on a word.
-fn beside(
-    out: &mut Vec<u8>,
-    g: Group,
-    n: usize,
-    word: &[u8],
-    modes: &[i32],
-    list: &mut [u32],
-) -> Result<(), AllocError> {
-    let least = orbit::canonicalize(g, n, word).word;
-    letters(out, n, &least)?;
-    let indexed = orbit::canonicalize_with_index(g, n, word).word;
-    lines::byte(out, b' ')?;
-    letters(out, n, &indexed)?;
-    let shifted = orbit::canonicalize_with_shift(g, n, word, list).word;
-    lines::byte(out, b' ')?;
-    letters(out, n, &shifted)?;
-    let kept = momentum::canonicalize_in_sector(g, n, word, modes, list).word;
-    lines::byte(out, b' ')?;
-    letters(out, n, &kept)?;
-    Ok(())
+// The words of the answers of the four calls on a word, zeros where one has none.
+fn beside(out: &mut Vec<u8>, given: &InForce<'_>, counter: &mut [u32]) -> io::Result<()> {
+    let InForce {
+        group,
+        n,
+        word,
+        modes,
+    } = *given;
+    let zeros = [0u8; WORD_BYTES];
+    let least = orbit::canonicalize(&group, n, word);
+    letters(out, n, &least.unwrap_or(zeros))?;
+    write!(out, " ")?;
+    match orbit::canonicalize_with_index(&group, n, word) {
+        Ok(indexed) => letters(out, n, &indexed.word)?,
+        Err(_) => letters(out, n, &zeros)?,
+    }
+    write!(out, " ")?;
+    let shifted = orbit::canonicalize_with_shift(&group, n, word, counter);
+    letters(out, n, &shifted.unwrap_or(zeros))?;
+    write!(out, " ")?;
+    match momentum::canonicalize_in_sector(&group, n, word, modes, counter) {
+        Ok(Sector::Kept(kept)) => letters(out, n, &kept.word),
+        _ => letters(out, n, &zeros),
+    }
 }
 
 // A word by its letters, or that it is zeros.
-fn letters(out: &mut Vec<u8>, n: usize, word: &[u8]) -> Result<(), AllocError> {
-    if lists::bytes_are(word, 0) {
-        lines::text(out, b"zeros")
+fn letters(out: &mut Vec<u8>, n: usize, word: &[u8]) -> io::Result<()> {
+    if word.iter().all(|byte| *byte == 0) {
+        write!(out, "zeros")
     } else {
         lines::spell(out, n, word)
     }

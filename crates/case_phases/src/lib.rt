@@ -1,50 +1,49 @@
-// Phase tables as lines of cases name them: the constant one, one that a file writes, an entry of one, and a number written into one.
+// Phase tables as lines of cases name them: one that a file writes, and the entries of one.
 #![tactic(auto)]
 
 mod file;
-pub mod forge;
 mod own;
 
-use case_text::fields::Args;
-use case_text::kinds::{PHASE_FILE, PHASE_TABLE};
-use case_text::texts;
+use case_text::fields;
+use case_text::texts::TEXT_ROOM;
 use phases::PhaseTable;
-use std::alloc::AllocError;
+use std::io;
+use std::io::Write;
 
-// The lines on phase tables; the table that is in force after them.
-pub fn answer(
-    out: &mut Vec<u8>,
-    before: PhaseTable,
-    kind: usize,
-    rest: &[u8],
-    args: Args,
-) -> Result<PhaseTable, AllocError> {
-    match kind {
-        PHASE_TABLE => constant(out),
-        PHASE_FILE => file::read(out, before, texts::after_space(rest)),
-        _ => entry(out, before, args.list[0]),
+// Puts the table of a file in force, after a refusal the constant one; the one before stays where the text is too long.
+pub fn read(out: &mut Vec<u8>, table: &mut PhaseTable, text: &[u8]) -> io::Result<()> {
+    let mut file = Vec::new(*out.allocator());
+    file::expand(&mut file, fields::after_space(text))?;
+    if TEXT_ROOM <= file.len() {
+        return write!(out, "?");
+    }
+    match phase_file::read_phase_table(&file) {
+        Ok(read) => {
+            *table = read;
+            write!(out, "accepted")?;
+        }
+        Err(why) => {
+            *table = phases::phase_table();
+            lines::refusal(out, why)?;
+        }
+    }
+    if is_constant(table) {
+        write!(out, ", constant")
+    } else {
+        write!(out, ", another")
     }
 }
 
-fn constant(out: &mut Vec<u8>) -> Result<PhaseTable, AllocError> {
-    lines::text(out, b"set")?;
-    Ok(phases::phase_table())
+// Whether all numbers are those of the constant table.
+fn is_constant(table: &PhaseTable) -> bool {
+    let own = phases::phase_table();
+    table.cosines == own.cosines && table.sines == own.sines
 }
 
 // Prints entry j.
-fn entry(out: &mut Vec<u8>, table: PhaseTable, j: usize) -> Result<PhaseTable, AllocError> {
-    let cosines = table.cosines;
-    let sines = table.sines;
-    print(out, &cosines, &sines, j)?;
-    Ok(table)
-}
-
-fn print(out: &mut Vec<u8>, cosines: &[i64], sines: &[i64], j: usize) -> Result<(), AllocError> {
-    if j < cosines.len() && j < sines.len() {
-        lines::signed(out, cosines[j])?;
-        lines::byte(out, b' ')?;
-        lines::signed(out, sines[j])
-    } else {
-        lines::byte(out, b'?')
+pub fn entry(out: &mut Vec<u8>, table: &PhaseTable, j: usize) -> io::Result<()> {
+    match (table.cosines.get(j), table.sines.get(j)) {
+        (Some(cosine), Some(sine)) => write!(out, "{cosine} {sine}"),
+        _ => write!(out, "?"),
     }
 }

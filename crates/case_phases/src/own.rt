@@ -1,132 +1,38 @@
 // The constant table's own print, by its lines: line 1 has the names, and line j + 2 entry j.
-use case_text::fields::Value;
 use case_text::{fields, texts};
-use phases::PHASES;
+use std::io;
+use std::io::Write;
 
-// How many lines there are.
-const LINES: usize = PHASES + 1;
-
-// Ten digits suffice for a number of the table: the weight of the first.
-const HIGHEST: u64 = 1000000000;
-
-// A piece of a text.
+// Lines of it, with the last.
 #[derive(Clone, Copy)]
-pub enum Part {
-    // `[A:B]`.
-    Lines(u64, u64),
-    Other,
-}
-
-pub fn read(piece: &[u8]) -> Part {
-    if texts::byte(piece, 0) != b'[' {
-        return Part::Other;
-    }
-    let colon = text::read::find(piece, b':');
-    if colon < piece.len() {
-        let last = piece.len() - 1;
-        if piece[last] == b']' {
-            return numbers(
-                fields::number(fields::field(piece, 0, colon)),
-                fields::number(fields::field(piece, colon, last)),
-            );
-        }
-    }
-    Part::Other
-}
-
-fn numbers(from: Value, to: Value) -> Part {
-    let Value::Number(a) = from else {
-        return Part::Other;
-    };
-    let Value::Number(b) = to else {
-        return Part::Other;
-    };
-    Part::Lines(a, b)
-}
-
-// Writes the lines from one to another, those that there are; the place after them.
-pub fn append(from: u64, to: u64, list: &mut [u8], at: usize) -> usize {
-    let table = phases::phase_table();
-    let cosines = table.cosines;
-    let sines = table.sines;
-    append_lines(&cosines, &sines, from as usize, after(to), list, at)
-}
-
-// The line after one; the one after all where there are fewer.
-fn after(line: u64) -> usize {
-    if line < LINES as u64 {
-        line as usize + 1
-    } else {
-        LINES + 1
-    }
-}
-
-// From one line to before another.
-fn append_lines(
-    cosines: &[i64],
-    sines: &[i64],
+pub struct Lines {
     from: usize,
-    end: usize,
-    list: &mut [u8],
-    at: usize,
-) -> usize {
-    let mut place = at;
-    let mut k = from;
-    while k < end {
-        place = append_line(cosines, sines, k, list, place);
-        k += 1;
-    }
-    place
+    to: usize,
 }
 
-fn append_line(cosines: &[i64], sines: &[i64], k: usize, list: &mut [u8], at: usize) -> usize {
-    match k {
-        0 => at,
-        1 => texts::append(b"cos sin|", list, at, b'|'),
-        _ => append_entry(cosines, sines, k - 2, list, at),
-    }
+// `[A:B]`.
+pub fn read(piece: &[u8]) -> Option<Lines> {
+    let ends = piece.strip_prefix(b"[")?.strip_suffix(b"]")?;
+    let (from, to) = texts::split_once(ends, b':')?;
+    Some(Lines {
+        from: usize::try_from(fields::number(from)?).ok()?,
+        to: usize::try_from(fields::number(to)?).ok()?,
+    })
 }
 
-fn append_entry(cosines: &[i64], sines: &[i64], j: usize, list: &mut [u8], at: usize) -> usize {
-    if j < cosines.len() && j < sines.len() {
-        let cosine = append_number(cosines[j], list, at);
-        let space = texts::put(list, cosine, b' ');
-        let sine = append_number(sines[j], list, space);
-        return texts::put(list, sine, b'\n');
+// Appends lines, those that there are.
+pub fn append(file: &mut Vec<u8>, lines: Lines) -> io::Result<()> {
+    let Lines { from, to } = lines;
+    if from <= 1 && 1 <= to {
+        write!(file, "cos sin\n")?;
     }
-    at
-}
-
-fn append_number(n: i64, list: &mut [u8], at: usize) -> usize {
-    let digits = append_sign(n, list, at);
-    append_digits(lines::size(n), list, digits)
-}
-
-fn append_sign(n: i64, list: &mut [u8], at: usize) -> usize {
-    if n < 0 {
-        return texts::put(list, at, b'-');
+    let table = phases::phase_table();
+    let entries = table.cosines.iter().zip(table.sines.iter());
+    for (cosine, sine) in entries
+        .take(to.saturating_sub(1))
+        .skip(from.saturating_sub(2))
+    {
+        write!(file, "{cosine} {sine}\n")?;
     }
-    at
-}
-
-fn append_digits(n: u64, list: &mut [u8], at: usize) -> usize {
-    let mut place = at;
-    let mut weight = HIGHEST;
-    while 0 < weight {
-        place = append_digit(n, weight, list, place);
-        weight = weight / 10;
-    }
-    place
-}
-
-// The digit of a weight, unless it and all before it are 0 and it is not the last.
-fn append_digit(n: u64, weight: u64, list: &mut [u8], at: usize) -> usize {
-    if weight == 0 {
-        return at;
-    }
-    let front = n / weight;
-    if front == 0 && 1 < weight {
-        return at;
-    }
-    texts::put(list, at, b'0' + (front % 10) as u8)
+    Ok(())
 }

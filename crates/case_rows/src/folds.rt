@@ -1,201 +1,107 @@
 // A sum folded: the call in lists of given lengths, and what it comes to.
-use case_text::sizes::{ROW_BYTES, ROW_ROOM, Sizes};
-use group::Group;
-use lines::{answers, lists};
-use outcome::Number;
+use case_calls::InForce;
+use case_text::lists::{Lengths, Lists};
+use case_text::rows::Rows;
+use outcome::Refusal;
 use pauli_word::WORD_BYTES;
-use std::alloc::AllocError;
+use std::alloc::{AllocError, Global};
+use std::io;
+use std::io::Write;
 
-// Folds a sum in the fronts of lists.
-pub fn fold(
-    out: &mut Vec<u8>,
-    g: Group,
-    sizes: Sizes,
-    words: &[u8],
-    coefficients: &[f64],
-) -> Result<(), AllocError> {
-    let bytes = sizes.words;
-    let rows = sizes.rows;
-    if words.len() < bytes {
-        return lines::byte(out, b'?');
-    }
-    if coefficients.len() < rows {
-        return lines::byte(out, b'?');
-    }
-    fold_into(out, g, sizes, &words[0..bytes], &coefficients[0..rows])
+// The lists that the call fills.
+#[derive(Drop)]
+struct Folded {
+    representatives: Vec<u8>,
+    sums: Vec<f64>,
+    counts: Vec<u32>,
 }
 
-// The output lists are all nines before.
-fn fold_into(
-    out: &mut Vec<u8>,
-    g: Group,
-    sizes: Sizes,
-    words: &[u8],
-    coefficients: &[f64],
-) -> Result<(), AllocError> {
-    let mut representatives = [9u8; ROW_BYTES];
-    let mut sums = [9.0f64; ROW_ROOM];
-    let mut counts = [9u32; ROW_ROOM];
-    fold_in(
-        out,
-        g,
-        sizes,
-        words,
-        coefficients,
-        &mut representatives,
-        &mut sums,
-        &mut counts,
-    )
+// Folds the rows in the fronts of lists.
+pub fn fold(out: &mut Vec<u8>, given: &InForce<'_>, rows: &Rows, lists: &Lists) -> io::Result<()> {
+    let Some(lengths) = lists.lengths(rows.count()) else {
+        return write!(out, "?");
+    };
+    let words = rows.words(lengths.words)?;
+    let coefficients = rows.floats(lengths.coefficients)?;
+    let mut folded = Folded::new(*out.allocator(), lengths)?;
+    let answer = folded.call(given, &words, &coefficients);
+    folded.print(out, given.n, answer, lists)
 }
 
-fn fold_in(
-    out: &mut Vec<u8>,
-    g: Group,
-    sizes: Sizes,
-    words: &[u8],
-    coefficients: &[f64],
-    representatives: &mut [u8],
-    sums: &mut [f64],
-    counts: &mut [u32],
-) -> Result<(), AllocError> {
-    let bytes = sizes.representatives;
-    let values = sizes.first;
-    let numbers = sizes.second;
-    if representatives.len() < bytes {
-        return lines::byte(out, b'?');
+impl Folded {
+    // All nines.
+    fn new(alloc: Global, lengths: Lengths) -> Result<Folded, AllocError> {
+        Ok(Folded {
+            representatives: vec![in alloc; 9u8; lengths.representatives]?,
+            sums: vec![in alloc; 9.0f64; lengths.first]?,
+            counts: vec![in alloc; 9u32; lengths.second]?,
+        })
     }
-    if sums.len() < values {
-        return lines::byte(out, b'?');
-    }
-    if counts.len() < numbers {
-        return lines::byte(out, b'?');
-    }
-    call(
-        out,
-        g,
-        sizes,
-        words,
-        coefficients,
-        &mut representatives[0..bytes],
-        &mut sums[0..values],
-        &mut counts[0..numbers],
-    )
-}
 
-fn call(
-    out: &mut Vec<u8>,
-    g: Group,
-    sizes: Sizes,
-    words: &[u8],
-    coefficients: &[f64],
-    representatives: &mut [u8],
-    sums: &mut [f64],
-    counts: &mut [u32],
-) -> Result<(), AllocError> {
-    let answer = merge::canonicalize_pauli_sum(
-        g,
-        words,
-        coefficients,
-        representatives,
-        sums,
-        counts,
-    );
-    told(out, answer, sizes, representatives, sums, counts)
-}
+    fn call(
+        &mut self,
+        given: &InForce<'_>,
+        words: &[u8],
+        coefficients: &[f64],
+    ) -> Result<usize, Refusal> {
+        merge::canonicalize_pauli_sum(
+            &given.group,
+            words,
+            coefficients,
+            &mut self.representatives,
+            &mut self.sums,
+            &mut self.counts,
+        )
+    }
 
-fn told(
-    out: &mut Vec<u8>,
-    answer: Number,
-    sizes: Sizes,
-    representatives: &[u8],
-    sums: &[f64],
-    counts: &[u32],
-) -> Result<(), AllocError> {
-    answers::number(out, answer)?;
-    match answer {
-        Number::Refused(_) => after(out, representatives, sums, counts),
-        Number::Value(k) => {
-            lines::text(out, b" rows:")?;
-            rows(
-                out,
-                sizes.n,
-                sizes.from,
-                end(k, sizes.to),
-                representatives,
-                sums,
-                counts,
-            )
+    fn print(
+        &self,
+        out: &mut Vec<u8>,
+        n: usize,
+        answer: Result<usize, Refusal>,
+        lists: &Lists,
+    ) -> io::Result<()> {
+        match answer {
+            Ok(count) => {
+                write!(out, "{count} rows:")?;
+                self.rows(out, n, lists.from, lists.end(count))
+            }
+            Err(why) => {
+                lines::refusal(out, why)?;
+                self.after(out)
+            }
         }
     }
-}
 
-// What the lists hold after a refusal.
-fn after(
-    out: &mut Vec<u8>,
-    representatives: &[u8],
-    sums: &[f64],
-    counts: &[u32],
-) -> Result<(), AllocError> {
-    if all_are(representatives, sums, counts, 9, 9.0) {
-        lines::text(out, b", as they were")
-    } else if all_are(representatives, sums, counts, 0, 0.0) {
-        lines::text(out, b", zeros")
-    } else {
-        lines::text(out, b", changed")
+    // Rows from one to before another.
+    fn rows(&self, out: &mut Vec<u8>, n: usize, from: usize, to: usize) -> io::Result<()> {
+        let words = self.representatives.chunks_exact(WORD_BYTES);
+        let numbers = self.sums.iter().zip(self.counts.iter());
+        for (word, (sum, count)) in words.zip(numbers).take(to).skip(from) {
+            write!(out, " ")?;
+            lines::spell(out, n, word)?;
+            write!(out, " ")?;
+            lines::float(out, *sum)?;
+            write!(out, " {count}")?;
+        }
+        Ok(())
     }
-}
 
-// Whether all three lists hold one number alone, given also as a float.
-fn all_are(representatives: &[u8], sums: &[f64], counts: &[u32], v: u8, x: f64) -> bool {
-    if lists::bytes_are(representatives, v) {
-        if lists::floats_are(sums, x) {
-            return lists::digits_are(counts, v as u32);
+    // What the lists hold after a refusal.
+    fn after(&self, out: &mut Vec<u8>) -> io::Result<()> {
+        if self.all_are(9, 9.0) {
+            write!(out, ", as they were")
+        } else if self.all_are(0, 0.0) {
+            write!(out, ", zeros")
+        } else {
+            write!(out, ", changed")
         }
     }
-    false
-}
 
-fn end(rows: usize, to: usize) -> usize {
-    if to == 0 { rows } else { to }
-}
-
-fn rows(
-    out: &mut Vec<u8>,
-    n: usize,
-    from: usize,
-    to: usize,
-    representatives: &[u8],
-    sums: &[f64],
-    counts: &[u32],
-) -> Result<(), AllocError> {
-    let mut k = from;
-    while k < to {
-        word(out, n, k, representatives)?;
-        number(out, k, sums, counts)?;
-        k += 1;
+    // Whether all three lists hold one number alone, given also as a float.
+    fn all_are(&self, number: u8, float: f64) -> bool {
+        self.representatives.iter().all(|x| *x == number)
+            && self.sums.iter().all(|x| *x == float)
+            && self.counts.iter().all(|x| *x == u32::from(number))
     }
-    Ok(())
-}
-
-fn word(out: &mut Vec<u8>, n: usize, k: usize, representatives: &[u8]) -> Result<(), AllocError> {
-    if k < ROW_ROOM {
-        let at = WORD_BYTES * k;
-        let end = at + WORD_BYTES;
-        if end <= representatives.len() {
-            lines::byte(out, b' ')?;
-            lines::spell(out, n, &representatives[at..end])?;
-        }
-    }
-    Ok(())
-}
-
-// The sum and the count of a row.
-fn number(out: &mut Vec<u8>, k: usize, sums: &[f64], counts: &[u32]) -> Result<(), AllocError> {
-    if k < sums.len() && k < counts.len() {
-        lines::byte(out, b' ')?;
-        lines::float(out, sums[k])?;
-        lines::byte(out, b' ')?;
-        lines::number32(out, counts[k])?;
-    }
-    Ok(())
 }

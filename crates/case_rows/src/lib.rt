@@ -1,7 +1,5 @@
-// The calls that lines of cases name and that print rows: sums and sheets.
+// The calls that lines of cases name and that fold sums and print sheets.
 #![tactic(auto)]
 
-mod folds;
-mod rows;
+pub mod folds;
 pub mod sheets;
-pub mod sums;

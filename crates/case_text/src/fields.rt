@@ -1,141 +1,75 @@
-// The fields of a line after its name, each with a space before it: numbers, lists of numbers, modes.
-ghost use Rattle.std.specs.Prelude.{◌<◌, ◌≤◌, length};
+// The fields of a line after its name, each with a space before it: numbers, lists of numbers.
 
-use permutation::{MAX_DECLARED, MAX_WIDE};
-use text::read::Mode;
-
-// The most numbers of a line that is a name and numbers.
-pub const ARGS: usize = 5;
-
-// How many entries were read into a list, or that the text has another form or more of them than the list has places.
-#[derive(Clone, Copy)]
-pub enum Count {
-    Of(usize),
-    Other,
+// What a field writes: a number of one kind.
+pub trait Field: Copy {
+    fn read(field: &[u8]) -> Option<Self>;
 }
 
-// A text read as a number of 64 bits.
-#[derive(Clone, Copy)]
-pub enum Value {
-    Number(u64),
-    Other,
-}
-
-// The numbers after a name: how many there are, and ARGS places for them. Where there is something else, more are counted than there are places.
-#[derive(Clone, Copy)]
-pub struct Args {
-    pub count: usize,
-    pub list: [usize; ARGS],
-}
-
-pub fn read_args(text: &[u8]) -> Args {
-    let mut list = [0usize; ARGS];
-    match numbers(text, &mut list) {
-        Count::Of(count) => Args { count, list },
-        Count::Other => Args {
-            count: ARGS + 1,
-            list,
-        },
+impl Field for usize {
+    fn read(field: &[u8]) -> Option<usize> {
+        usize::try_from(number(field)?).ok()
     }
 }
 
-// The place after the field whose space stands at a place: of the next space, or the text's end.
-pub fn field_end(text: &[u8], at: usize) -> usize
-    requires { at < length text.now }
-    ensures { (at < result) × (result ≤ length text.now) }
-{
-    let start = at + 1;
-    let rest = &text[start..];
-    let k = text::read::find(rest, b' ');
-    if k < rest.len() {
-        return start + k;
+impl Field for u32 {
+    fn read(field: &[u8]) -> Option<u32> {
+        u32::try_from(number(field)?).ok()
     }
-    text.len()
 }
 
-// The field between two places; the first is that of its space.
-pub fn field(text: &[u8], at: usize, end: usize) -> &[u8] {
-    if at < end {
-        if end <= text.len() {
-            return &text[at + 1..end];
+impl Field for i32 {
+    fn read(field: &[u8]) -> Option<i32> {
+        i32::try_from(whole(field)?).ok()
+    }
+}
+
+// The field at a text's front, without its space, and what stands after it.
+pub fn first(text: &[u8]) -> Option<(&[u8], &[u8])> {
+    let (_, fields) = text.split_first()?;
+    let end = fields.iter().position(|byte| *byte == b' ');
+    fields.split_at_checked(end.unwrap_or(fields.len()))
+}
+
+// The text without the space that it begins with.
+pub fn after_space(text: &[u8]) -> &[u8] {
+    text.get(1..).unwrap_or(text)
+}
+
+// The numbers of a text that has nothing else, at the front of a list that has places for them.
+pub fn numbers<'a, N: Field>(text: &[u8], list: &'a mut [N]) -> Option<&'a [N]> {
+    let mut count = 0;
+    if let Some((_, fields)) = text.split_first() {
+        for field in fields.split(|byte| *byte == b' ') {
+            *list.get_mut(count)? = N::read(field)?;
+            count += 1;
         }
     }
-    &text[0..0]
+    list.get(..count)
 }
 
 // A number in decimal, without leading zeros.
-pub fn number(text: &[u8]) -> Value {
-    if !text::read::is_number(text) {
-        return Value::Other;
+pub fn number(text: &[u8]) -> Option<u64> {
+    match text {
+        [] | [b'0', _, ..] => return None,
+        _ => {}
     }
-    let mut v: u64 = 0;
-    let mut i = 0;
-    while i < text.len() {
-        let d = text::read::digit(text[i]);
-        if (MAX_WIDE - d) / 10 < v {
-            return Value::Other;
-        }
-        v = 10 * v + d;
-        i += 1;
+    let mut value: u64 = 0;
+    for byte in text {
+        let digit = char::from(*byte).to_digit(10)?;
+        value = value.checked_mul(10)?.checked_add(u64::from(digit))?;
     }
-    Value::Number(v)
+    Some(value)
 }
 
-pub fn numbers(text: &[u8], list: &mut [usize]) -> Count {
-    let mut k = 0;
-    let mut at = 0;
-    while at < text.len() {
-        let end = field_end(text, at);
-        let Value::Number(v) = number(field(text, at, end)) else {
-            return Count::Other;
-        };
-        if k == list.len() {
-            return Count::Other;
-        }
-        list[k] = v as usize;
-        k += 1;
-        at = end;
+// A whole number in decimal: a number, or a minus and a number other than 0.
+pub fn whole(text: &[u8]) -> Option<i64> {
+    match text.strip_prefix(b"-") {
+        Some(digits) => negative(number(digits)?),
+        None => i64::try_from(number(text)?).ok(),
     }
-    Count::Of(k)
 }
 
-// The same with numbers of 32 bits.
-pub fn digits(text: &[u8], list: &mut [u32]) -> Count {
-    let mut k = 0;
-    let mut at = 0;
-    while at < text.len() {
-        let end = field_end(text, at);
-        let Value::Number(v) = number(field(text, at, end)) else {
-            return Count::Other;
-        };
-        if MAX_DECLARED < v {
-            return Count::Other;
-        }
-        if k == list.len() {
-            return Count::Other;
-        }
-        list[k] = v as u32;
-        k += 1;
-        at = end;
-    }
-    Count::Of(k)
-}
-
-// The same with modes.
-pub fn modes(text: &[u8], list: &mut [i32]) -> Count {
-    let mut k = 0;
-    let mut at = 0;
-    while at < text.len() {
-        let end = field_end(text, at);
-        let Mode::Value(v) = text::read::read_mode(field(text, at, end)) else {
-            return Count::Other;
-        };
-        if k == list.len() {
-            return Count::Other;
-        }
-        list[k] = v;
-        k += 1;
-        at = end;
-    }
-    Count::Of(k)
+fn negative(size: u64) -> Option<i64> {
+    let less = i64::try_from(size.checked_sub(1)?).ok()?;
+    Some(-1 - less)
 }

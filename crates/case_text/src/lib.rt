@@ -1,9 +1,9 @@
-// Lines of cases as text: their kinds by name, the numbers and lists after it, bytes in hexadecimal, sheets and files written in a line.
+// Lines of cases as text: the commands that they write, the numbers and lists in them, bytes in hexadecimal, sheets and files written in a line.
 #![tactic(auto)]
 
+pub mod commands;
 pub mod fields;
-pub mod hex;
-pub mod kinds;
-pub mod sizes;
+pub mod hexadecimal;
+pub mod lists;
+pub mod rows;
 pub mod texts;
-pub mod wholes;

@@ -1,182 +1,113 @@
 // Bytes into lists, and the sheet or file that a text stands for: `|` is byte 10, `\HH` the byte of two hexadecimal digits, `{K:TEXT}` K times TEXT, in
 // which bars are byte 10 too. Whatever else stands for itself.
-ghost use Rattle.std.specs.Prelude.{◌<◌, ◌≤◌, length};
+ghost use Rattle.std.specs.Prelude.{◌<◌, length, IfSome};
 
-use crate::fields::Value;
-use crate::{fields, hex};
-use pauli_word::{OLD_PLANE_BYTES, OLD_WORD_BYTES, PLANE_BYTES, WORD_BYTES};
+use crate::{fields, hexadecimal};
+use pauli_word::{OLD_PLANE_BYTES, OLD_WORD_BYTES, PLANE_BYTES};
+use std::alloc::AllocError;
 
-// The bytes of `\HH`.
-const ESCAPE: usize = 3;
+// The most bytes of a line, and of the sheet or file that it writes, and one: what has as many is too long.
+pub const TEXT_ROOM: usize = 131072;
 
-// Byte i, 0 past the end.
-pub fn byte(text: &[u8], i: usize) -> u8 {
-    if i < text.len() { text[i] } else { 0 }
-}
-
-// Writes a byte at a place; the place after it. A list that is full stays as it is: what fills a list whole is too long for it.
-pub fn put(list: &mut [u8], at: usize, byte: u8) -> usize {
-    if at < list.len() {
-        list[at] = byte;
-        return at + 1;
-    }
-    at
+// What the front of a text stands for.
+#[derive(Clone, Copy)]
+enum Piece<'a> {
+    Byte(u8),
+    // So many times this text.
+    Times(u64, &'a [u8]),
 }
 
 // Writes bytes over a list, and zeros after them.
 pub fn write(bytes: &[u8], list: &mut [u8]) {
-    let mut i = 0;
-    while i < list.len() {
-        list[i] = byte(bytes, i);
-        i += 1;
+    list.fill(0);
+    for (place, byte) in list.iter_mut().zip(bytes) {
+        *place = *byte;
     }
 }
 
-// Writes a word in full over the front of a list in the old form: the first bytes of either plane.
-pub fn write_old(full: &[u8], list: &mut [u8]) {
-    if full.len() < WORD_BYTES {
-        return;
+// A word in full in the old form: the first bytes of either plane.
+pub fn old_form(word: &[u8]) -> [u8; OLD_WORD_BYTES] {
+    let mut old = [0u8; OLD_WORD_BYTES];
+    let planes = word.chunks_exact(PLANE_BYTES);
+    for (place, plane) in old.chunks_exact_mut(OLD_PLANE_BYTES).zip(planes) {
+        write(plane, place);
     }
-    if list.len() < OLD_WORD_BYTES {
-        return;
-    }
-    write(&full[0..OLD_PLANE_BYTES], &mut list[0..OLD_PLANE_BYTES]);
-    write(
-        &full[PLANE_BYTES..PLANE_BYTES + OLD_PLANE_BYTES],
-        &mut list[OLD_PLANE_BYTES..OLD_WORD_BYTES],
-    );
+    old
 }
 
-// The first k bytes, or all where there are fewer.
-pub fn front(bytes: &[u8], k: usize) -> &[u8] {
-    if k <= bytes.len() {
-        return &bytes[0..k];
-    }
-    bytes
-}
-
-// The text without the space that it begins with.
-pub fn after_space(text: &[u8]) -> &[u8] {
-    if 0 < text.len() {
-        return &text[1..];
-    }
-    text
-}
-
-// Writes what a text stands for at a place of a list; the place after it.
-pub fn expand(text: &[u8], list: &mut [u8], start: usize) -> usize {
-    let mut place = start;
-    let mut at = 0;
-    while at < text.len() {
-        let rest = &text[at..];
-        let k = width(rest);
-        place = expand_piece(&rest[0..k], list, place);
-        at += k;
-    }
-    place
-}
-
-// How many bytes the first piece of a text has: a repeat, an escape, or a byte.
-fn width(text: &[u8]) -> usize
-    requires { 0 < length text.now }
-    ensures { (0 < result) × (result ≤ length text.now) }
+// What stands before the first such byte, and after it.
+pub fn split_once(text: &[u8], byte: u8) -> Option<(&[u8], &[u8])>
+    ensures { IfSome result (λ parts. length parts.1.now < length text.now) }
 {
-    match text[0] {
-        b'{' => repeat_width(text),
-        b'\\' => escape_width(text),
-        _ => 1,
-    }
+    let at = text.iter().position(|b| *b == byte)?;
+    Some((&text[..at], &text[at + 1..]))
 }
 
-fn escape_width(text: &[u8]) -> usize
-    requires { 0 < length text.now }
-    ensures { (0 < result) × (result ≤ length text.now) }
+// Appends what a text stands for.
+pub fn expand(list: &mut Vec<u8>, text: &[u8]) -> Result<(), AllocError> {
+    let mut rest = text;
+    while let Some((piece, after)) = first_piece(rest) {
+        match piece {
+            Piece::Byte(byte) => list.push(byte)?,
+            Piece::Times(count, times) => append_times(list, times, count)?,
+        }
+        rest = after;
+    }
+    Ok(())
+}
+
+// What the front of a text stands for, and what stands after it.
+fn first_piece(text: &[u8]) -> Option<(Piece<'_>, &[u8])>
+    ensures { IfSome result (λ parts. length parts.1.now < length text.now) }
 {
-    if ESCAPE <= text.len() {
-        if hex::digits_alone(&text[1..ESCAPE]) {
-            return ESCAPE;
-        }
+    let (first, after) = text.split_first()?;
+    match *first {
+        b'{' => Some(times(after).unwrap_or((Piece::Byte(b'{'), after))),
+        b'\\' => Some(escaped(after).unwrap_or((Piece::Byte(b'\\'), after))),
+        byte => Some((Piece::Byte(unbarred(byte)), after)),
     }
-    1
 }
 
-fn repeat_width(text: &[u8]) -> usize
-    requires { 0 < length text.now }
-    ensures { (0 < result) × (result ≤ length text.now) }
+// `K:TEXT}`.
+fn times(text: &[u8]) -> Option<(Piece<'_>, &[u8])>
+    ensures { IfSome result (λ parts. length parts.1.now < length text.now) }
 {
-    let end = text::read::find(text, b'}');
-    if end < text.len() {
-        if is_repeat(&text[0..end]) {
-            return end + 1;
+    let (repeat, after) = split_once(text, b'}')?;
+    let (count, times) = split_once(repeat, b':')?;
+    Some((Piece::Times(fields::number(count)?, times), after))
+}
+
+// `HH`.
+fn escaped(text: &[u8]) -> Option<(Piece<'_>, &[u8])>
+    ensures { IfSome result (λ parts. length parts.1.now < length text.now) }
+{
+    let [high, low, after @ ..] = text else {
+        return None;
+    };
+    Some((Piece::Byte(hexadecimal::byte(*high, *low)?), after))
+}
+
+// Appends a text so many times, until there is no room.
+fn append_times(list: &mut Vec<u8>, text: &[u8], count: u64) -> Result<(), AllocError> {
+    for _ in 0..count.min(TEXT_ROOM as u64) {
+        if TEXT_ROOM <= list.len() {
+            break;
         }
+        list.extend(text.iter().map(|byte| unbarred(*byte)))?;
     }
-    1
+    Ok(())
 }
 
-// Whether a text is `{K:TEXT`.
-fn is_repeat(text: &[u8]) -> bool {
-    let colon = text::read::find(text, b':');
-    if colon < text.len() {
-        if let Value::Number(_) = fields::number(fields::field(text, 0, colon)) {
-            return true;
-        }
-    }
-    false
-}
-
-// Writes what a piece stands for.
-fn expand_piece(piece: &[u8], list: &mut [u8], at: usize) -> usize {
-    if piece.len() <= 1 {
-        return append(piece, list, at, b'|');
-    }
-    if piece[0] == b'\\' {
-        return put(list, at, hex::byte(byte(piece, 1), byte(piece, 2)));
-    }
-    repeat(&piece[0..piece.len() - 1], list, at)
-}
-
-// Writes what `{K:TEXT` stands for.
-fn repeat(text: &[u8], list: &mut [u8], at: usize) -> usize {
-    let colon = text::read::find(text, b':');
-    if colon < text.len() {
-        if let Value::Number(count) = fields::number(fields::field(text, 0, colon)) {
-            return append_times(&text[colon + 1..], list, at, count);
-        }
-    }
-    at
-}
-
-fn append_times(text: &[u8], list: &mut [u8], at: usize, count: u64) -> usize {
-    let mut place = at;
-    let mut i = 0;
-    while i < count {
-        place = append(text, list, place, b'|');
-        i += 1;
-    }
-    place
-}
-
-// Writes a text, with line ends for the bars in it.
-pub fn append(text: &[u8], list: &mut [u8], at: usize, bar: u8) -> usize {
-    let mut place = at;
-    let mut i = 0;
-    while i < text.len() {
-        place = put(list, place, exchanged(text[i], bar, b'\n'));
-        i += 1;
-    }
-    place
+// A byte, byte 10 for a bar.
+fn unbarred(byte: u8) -> u8 {
+    if byte == b'|' { b'\n' } else { byte }
 }
 
 // Puts bars for line ends.
 pub fn bar(list: &mut [u8]) {
-    let mut i = 0;
-    while i < list.len() {
-        list[i] = exchanged(list[i], b'\n', b'|');
-        i += 1;
+    for byte in list {
+        if *byte == b'\n' {
+            *byte = b'|';
+        }
     }
-}
-
-// A byte, with one exchanged for another.
-fn exchanged(byte: u8, one: u8, other: u8) -> u8 {
-    if byte == one { other } else { byte }
 }

@@ -1,120 +1,132 @@
 // The calls on rows of words, as lines of cases name them: in lists of given lengths, and what they come to.
 #![tactic(auto)]
 
-mod lengths;
-mod print;
+use case_calls::InForce;
+use case_text::lists::{Lengths, Lists};
+use case_text::rows::Rows;
+use outcome::Refusal;
+use pauli_word::WORD_BYTES;
+use std::alloc::{AllocError, Global};
+use std::io;
+use std::io::Write;
 
-use crate::lengths::Lengths;
-use case_text::fields::Args;
-use case_text::kinds::SECTOR_WORDS;
-use case_text::sizes::{ROW_BYTES, ROW_ROOM};
-use group::Group;
-use std::alloc::AllocError;
-
-// Answers a line on the first `count` rows, or on lists of the lengths that it gives: their least words, or what modes make of them.
-pub fn answer(
-    out: &mut Vec<u8>,
-    g: Group,
-    modes: &[i32],
-    n: usize,
-    count: usize,
-    kind: usize,
-    args: Args,
-    words: &[u8],
-) -> Result<(), AllocError> {
-    let lengths = lengths::of(n, count, args);
-    let bytes = lengths.words;
-    if words.len() < bytes {
-        return lines::byte(out, b'?');
-    }
-    answer_into(
-        out,
-        g,
-        modes,
-        SECTOR_WORDS <= kind,
-        lengths,
-        &words[0..bytes],
-    )
+// The lists that a call fills. The call without modes leaves the sizes as they are.
+#[derive(Drop)]
+struct Answered {
+    representatives: Vec<u8>,
+    indices: Vec<usize>,
+    sizes: Vec<usize>,
 }
 
-// The output lists are all nines before.
-fn answer_into(
+// The least words of the rows.
+pub fn canonicalize(
     out: &mut Vec<u8>,
-    g: Group,
-    modes: &[i32],
-    sector: bool,
-    lengths: Lengths,
-    words: &[u8],
-) -> Result<(), AllocError> {
-    let mut representatives = [9u8; ROW_BYTES];
-    let mut indices = [9usize; ROW_ROOM];
-    let mut sizes = [9usize; ROW_ROOM];
-    answer_in(
-        out,
-        g,
-        modes,
-        sector,
-        lengths,
-        words,
-        &mut representatives,
-        &mut indices,
-        &mut sizes,
-    )
+    given: &InForce<'_>,
+    rows: &Rows,
+    lists: &Lists,
+) -> io::Result<()> {
+    let Some(lengths) = lists.lengths(rows.count()) else {
+        return write!(out, "?");
+    };
+    let words = rows.words(lengths.words)?;
+    let mut answered = Answered::new(*out.allocator(), lengths)?;
+    let answer = orbit::canonicalize_words(
+        &given.group,
+        &words,
+        &mut answered.representatives,
+        &mut answered.indices,
+    );
+    answered.begin(out, answer)?;
+    match answer {
+        Ok(()) => answered.print_least(out, given.n, lists),
+        Err(_) => Ok(()),
+    }
 }
 
-fn answer_in(
+// What the modes make of the rows.
+pub fn in_sector(
     out: &mut Vec<u8>,
-    g: Group,
-    modes: &[i32],
-    sector: bool,
-    lengths: Lengths,
-    words: &[u8],
-    representatives: &mut [u8],
-    indices: &mut [usize],
-    sizes: &mut [usize],
-) -> Result<(), AllocError> {
-    let bytes = lengths.representatives;
-    let first = lengths.indices;
-    let second = lengths.sizes;
-    if representatives.len() < bytes {
-        return lines::byte(out, b'?');
+    given: &InForce<'_>,
+    rows: &Rows,
+    lists: &Lists,
+) -> io::Result<()> {
+    let Some(lengths) = lists.lengths(rows.count()) else {
+        return write!(out, "?");
+    };
+    let words = rows.words(lengths.words)?;
+    let mut answered = Answered::new(*out.allocator(), lengths)?;
+    let answer = momentum::sector_words(
+        &given.group,
+        given.modes,
+        &words,
+        &mut answered.representatives,
+        &mut answered.indices,
+        &mut answered.sizes,
+    );
+    answered.begin(out, answer)?;
+    match answer {
+        Ok(()) => answered.print_decided(out, given.n, lists),
+        Err(_) => Ok(()),
     }
-    if indices.len() < first {
-        return lines::byte(out, b'?');
-    }
-    if sizes.len() < second {
-        return lines::byte(out, b'?');
-    }
-    call(
-        out,
-        g,
-        modes,
-        sector,
-        lengths,
-        words,
-        &mut representatives[0..bytes],
-        &mut indices[0..first],
-        &mut sizes[0..second],
-    )
 }
 
-// With modes if `sector` says so; without them the sizes stay as they are.
-fn call(
-    out: &mut Vec<u8>,
-    g: Group,
-    modes: &[i32],
-    sector: bool,
-    lengths: Lengths,
-    words: &[u8],
-    representatives: &mut [u8],
-    indices: &mut [usize],
-    sizes: &mut [usize],
-) -> Result<(), AllocError> {
-    if sector {
-        let answer = momentum::sector_words(g, modes, words, representatives, indices, sizes);
-        print::told(out, answer, lengths, representatives, indices, sizes)
-    } else {
-        let answer = orbit::canonicalize_words(g, words, representatives, indices);
-        print::told(out, answer, lengths, representatives, indices, &sizes[0..0])
+impl Answered {
+    // All nines.
+    fn new(alloc: Global, lengths: Lengths) -> Result<Answered, AllocError> {
+        Ok(Answered {
+            representatives: vec![in alloc; 9u8; lengths.representatives]?,
+            indices: vec![in alloc; 9usize; lengths.first]?,
+            sizes: vec![in alloc; 9usize; lengths.second]?,
+        })
+    }
+
+    // How many rows there are, or the refusal and what the lists hold after it.
+    fn begin(&self, out: &mut Vec<u8>, answer: Result<(), Refusal>) -> io::Result<()> {
+        if let Err(why) = answer {
+            lines::refusal(out, why)?;
+            return self.after(out);
+        }
+        let count = self.indices.len();
+        write!(out, "{count} rows:")
+    }
+
+    fn after(&self, out: &mut Vec<u8>) -> io::Result<()> {
+        let nines = self.representatives.iter().all(|x| *x == 9)
+            && self.indices.iter().all(|x| *x == 9)
+            && self.sizes.iter().all(|x| *x == 9);
+        if nines {
+            write!(out, ", as they were")
+        } else {
+            write!(out, ", changed")
+        }
+    }
+
+    // The rows with their indices.
+    fn print_least(&self, out: &mut Vec<u8>, n: usize, lists: &Lists) -> io::Result<()> {
+        let words = self.representatives.chunks_exact(WORD_BYTES);
+        let rows = words.zip(self.indices.iter());
+        for (word, index) in rows.take(lists.end(self.indices.len())).skip(lists.from) {
+            write!(out, " ")?;
+            lines::spell(out, n, word)?;
+            write!(out, " {index}")?;
+        }
+        Ok(())
+    }
+
+    // The rows with their indices and sizes; of a dropped one a dash for zeros.
+    fn print_decided(&self, out: &mut Vec<u8>, n: usize, lists: &Lists) -> io::Result<()> {
+        let words = self.representatives.chunks_exact(WORD_BYTES);
+        let rows = words.zip(self.indices.iter().zip(self.sizes.iter()));
+        let end = lists.end(self.indices.len());
+        for (word, (index, size)) in rows.take(end).skip(lists.from) {
+            write!(out, " ")?;
+            if *size == 0 && word.iter().all(|byte| *byte == 0) {
+                write!(out, "-")?;
+            } else {
+                lines::spell(out, n, word)?;
+            }
+            write!(out, " {index} {size}")?;
+        }
+        Ok(())
     }
 }

@@ -9,7 +9,8 @@
 // | line                            | does                                                      | prints                                             |
 // |---------------------------------|-----------------------------------------------------------|----------------------------------------------------|
 // | nothing, or `#` and any text    | nothing                                                   | itself                                             |
-// | `group N t t .. / o o ..`       | try_from_generators; the group handed back is in force    | `accepted` or REFUSED                              |
+// | `group N t t .. / o o ..`       | try_from_generators; the group is in force, after a       | `accepted` or REFUSED                              |
+// |                                 | refusal one that every call refuses                       |                                                    |
 // | `chain a`, `ladder a b`,        | the lattice, likewise                                     | likewise                                           |
 // | `torus2 a b`, `torus3 a b c`    |                                                           |                                                    |
 // | `set sites V`, `generators V`,  | writes into the group value: forging                      | `set`                                              |
@@ -21,7 +22,8 @@
 // | `targets`                       | nothing                                                   | `/` and its targets for each generator             |
 // | `counter I K`                   | counter_from_index into K places                          | `done:` or `REFUSED:`, the list                    |
 // | `index d d ..`                  | index_from_counter                                        | the number or REFUSED                              |
-// | `word TEXT`                     | from_text; the word is in force, n 0 beside a refusal     | n or REFUSED                                       |
+// | `word TEXT`                     | from_text; the word is in force, after a refusal one of   | n or REFUSED                                       |
+// |                                 | zeros, n 0                                                |                                                    |
 // | `bytes N HEX`                   | nothing: n and these bytes are in force                   | `set`                                              |
 // | `old`                           | nothing: the word, in full, is in force in the old form,  | `set`                                              |
 // |                                 | the first OLD_PLANE_BYTES of either plane                 |                                                    |
@@ -30,19 +32,20 @@
 // | `compare_text TEXT`             | the same with the word of a text                          | likewise                                           |
 // | `canonicalize`                  | canonicalize                                              | LETTERS or REFUSED                                 |
 // | `with_index`                    | canonicalize_with_index                                   | `LETTERS index` or REFUSED                         |
-// | `at I`                          | word_at_index                                             | LETTERS; or REFUSED and `, zeros` or `, changed`   |
+// | `at I`                          | word_at_index                                             | LETTERS; or REFUSED and `, zeros`                  |
 // | `with_shift K`                  | canonicalize_with_shift into K places                     | `LETTERS:` or `REFUSED:`, the list                 |
 // | `orbit_list L`                  | orbit_list into L bytes                                   | `done:` and the words; REFUSED, `, as it was` or   |
 // |                                 |                                                           | `, changed`                                        |
-// | `orbit`                         | orbit; the walk handed back is in force                   | `begun` or REFUSED                                 |
+// | `orbit`                         | orbit; the walk is in force, after a refusal one whose    | `begun` or REFUSED                                 |
+// |                                 | steps are refused                                         |                                                    |
 // | `next K`                        | K steps of the walk                                       | parted by `; `: `I LETTERS`, `finished`, REFUSED   |
 // | `modes k k ..`                  | nothing: these are in force                               | `set`                                              |
 // | `numerator d d ..`              | character_numerator                                       | the number or REFUSED                              |
 // | `table L`                       | character_table into L places                             | `done:` or `REFUSED:`, the list                    |
 // | `sector K`                      | canonicalize_in_sector into K places                      | `kept SIZE LETTERS:`, `dropped INDEX:` or          |
 // |                                 |                                                           | `REFUSED:`, the list                               |
-// | `beside K`                      | canonicalize, with_index, with_shift and in_sector, the   | for each the word beside its answer: `zeros` or    |
-// |                                 | last two into K places                                    | LETTERS                                            |
+// | `beside K`                      | canonicalize, with_index, with_shift and in_sector, the   | for each the word of its answer, LETTERS; `zeros`  |
+// |                                 | last two into K places                                    | where it is zeros or there is none                 |
 // | `clear`                         | nothing: no rows                                          | `set`                                              |
 // | `row HEX`, `rows K HEX`         | nothing: the word, cut or filled up to WORD_BYTES, with   | `set`                                              |
 // |                                 | the float of these bits, or `nan`, and the whole number   |                                                    |
@@ -60,10 +63,10 @@
 // |                                 | coefficients, bytes of representatives, sums, counts      |                                                    |
 // | `sum_at A B`                    | as `sum`                                                  | of the lists the rows A to B - 1, zeros too        |
 // | `phase_table`                   | phase_table; it is in force                               | `set`                                              |
-// | `phase_file TEXT`               | read_phase_table; the table handed back is in force. TEXT | `accepted` or REFUSED, and then `, constant` or    |
-// |                                 | is as for `sheet`, and besides `[A:B]` stands for lines A | `, another`, whether that table is the constant    |
-// |                                 | to B of the constant table's print, line 1 with the names | one, all numbers compared                          |
-// |                                 | and line j + 2 with entry j                               |                                                    |
+// | `phase_file TEXT`               | read_phase_table; the table is in force, after a refusal  | `accepted` or REFUSED, and then `, constant` or    |
+// |                                 | the constant one. TEXT is as for `sheet`, and besides     | `, another`, whether that table is the constant    |
+// |                                 | `[A:B]` stands for lines A to B of the constant table's   | one, all numbers compared                          |
+// |                                 | print, line 1 with the names and line j + 2 with entry j  |                                                    |
 // | `phase J`                       | nothing                                                   | the cosine and the sine of entry J, `C S`          |
 // | `project`                       | project_pauli_sum, by the table, with the whole numbers   | `K kept, D dropped:` and ` LETTERS COSINE SINE`    |
 // |                                 |                                                           | for each row of the table, ` and more after them`  |

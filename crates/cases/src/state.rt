@@ -1,14 +1,16 @@
 // What is in force between lines.
-use case_calls::sectors::{MODE_ROOM, Modes};
-use case_calls::words::{WORD_ROOM, Word};
+use case_calls::InForce;
+use case_calls::modes::{MODE_ROOM, Modes};
+use case_calls::words::Word;
+use case_text::rows::Rows;
 use group::Group;
 use orbit::Walk;
 use pauli_word::WORD_BYTES;
 use permutation::{MAX_GENERATORS, TARGET_PLACES};
 use phases::PhaseTable;
-use std::alloc::AllocError;
+use std::alloc::Global;
 
-#[derive(Clone, Copy)]
+#[derive(Drop)]
 pub struct State {
     pub group: Group,
     pub word: Word,
@@ -16,52 +18,42 @@ pub struct State {
     pub walk: Walk,
     // The table that sums are projected with.
     pub phases: PhaseTable,
-    // How many rows the sum has; they stand in lists beside the state.
-    pub rows: usize,
-}
-
-// Nothing in force: all is zero, and the phase table is the constant one.
-pub fn nothing() -> State {
-    let group = Group {
-        sites: 0,
-        generators: 0,
-        orders: [0u32; MAX_GENERATORS],
-        targets: [0u16; TARGET_PLACES],
-    };
-    let word = Word {
-        n: 0,
-        bytes: [0u8; WORD_ROOM],
-        length: 0,
-    };
-    let modes = Modes {
-        list: [0i32; MODE_ROOM],
-        count: 0,
-    };
-    let walk = Walk {
-        group,
-        word: [0u8; WORD_BYTES],
-        index: 0,
-    };
-    State {
-        group,
-        word,
-        modes,
-        walk,
-        phases: phases::phase_table(),
-        rows: 0,
-    }
+    pub rows: Rows,
 }
 
 impl State {
-    // The answer where something was put in force.
-    pub fn set(self, out: &mut Vec<u8>) -> Result<State, AllocError> {
-        lines::text(out, b"set")?;
-        Ok(self)
+    // Nothing in force: all is zero, and the phase table is the constant one.
+    pub fn new(alloc: Global) -> State {
+        let group = Group {
+            sites: 0,
+            generators: 0,
+            orders: [0u32; MAX_GENERATORS],
+            targets: [0u16; TARGET_PLACES],
+        };
+        State {
+            group,
+            word: Word::new(0, &[]),
+            modes: Modes {
+                list: [0i32; MODE_ROOM],
+                count: 0,
+            },
+            walk: Walk {
+                group,
+                word: [0u8; WORD_BYTES],
+                index: 0,
+            },
+            phases: phases::phase_table(),
+            rows: Rows::new(alloc),
+        }
     }
 
-    // The answer to a line of another form.
-    pub fn other(self, out: &mut Vec<u8>) -> Result<State, AllocError> {
-        lines::byte(out, b'?')?;
-        Ok(self)
+    // What is in force for a call.
+    pub fn in_force(&self) -> InForce<'_> {
+        InForce {
+            group: self.group.lent(),
+            n: self.word.n,
+            word: self.word.front(),
+            modes: self.modes.front(),
+        }
     }
 }

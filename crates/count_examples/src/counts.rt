@@ -1,98 +1,93 @@
 // Counts over all words of 2 and of 4 sites: how many representatives each mode list keeps, and how many mode lists keep a word.
 ghost use Rattle.std.specs.Prelude.{◌≤◌, IfOk};
 
-use group::Group;
-use lines::lists;
+use anyhow::{Error, Result, anyhow};
 use momentum::Sector;
-use pauli_word::{Comparison, Ordering, PLANE_BYTES, WORD_BYTES};
-use std::alloc::AllocError;
+use outcome::Refusal;
+use pauli_word::{PLANE_BYTES, WORD_BYTES};
+use permutation::Lent;
+use std::cmp::Ordering;
+use std::io::Write;
+
+// The mode lists of a torus of 2 by 2.
+const TORUS_MODES: [[i32; 2]; 4] = [[0, 0], [1, 0], [0, 1], [1, 1]];
+
+// No call here is refused.
+fn refused(why: Refusal) -> Error {
+    let rule = outcome::rule_number(why);
+    anyhow!("a call refused its input by rule {rule}")
+}
 
 // The 16 words of a ring of 2.
-pub fn chain(out: &mut Vec<u8>) -> Result<(), AllocError> {
+pub fn chain(out: &mut Vec<u8>) -> Result<()> {
     let even = chain_at(out, 0)?;
     let odd = chain_at(out, 1)?;
-    lines::text(out, b"chain 2, both modes: ")?;
+    write!(out, "chain 2, both modes: ")?;
     pairs(out, even + odd, 16)
 }
 
-fn chain_at(out: &mut Vec<u8>, k: i32) -> Result<usize, AllocError>
-    ensures { IfOk result (λ k. k ≤ 16) }
+fn chain_at(out: &mut Vec<u8>, mode: i32) -> Result<usize>
+    ensures { IfOk result (λ count. count ≤ 16) }
 {
-    let g = group::chain_1d(2).group;
-    representatives(out, b"chain 2", g, 2, 16, &[k])
+    let group = group::chain_1d(2).map_err(refused)?;
+    representatives(out, "chain 2", &group.lent(), 2, 16, &[mode])
 }
 
 // The 256 words of a torus of 2 by 2.
-pub fn torus(out: &mut Vec<u8>) -> Result<(), AllocError> {
-    let a = torus_at(out, 0, 0)?;
-    let b = torus_at(out, 1, 0)?;
-    let c = torus_at(out, 0, 1)?;
-    let d = torus_at(out, 1, 1)?;
-    lines::text(out, b"torus 2 by 2, all four mode lists: ")?;
+pub fn torus(out: &mut Vec<u8>) -> Result<()> {
+    let a = torus_at(out, [0, 0])?;
+    let b = torus_at(out, [1, 0])?;
+    let c = torus_at(out, [0, 1])?;
+    let d = torus_at(out, [1, 1])?;
+    write!(out, "torus 2 by 2, all four mode lists: ")?;
     pairs(out, a + b + c + d, 256)
 }
 
-fn torus_at(out: &mut Vec<u8>, k: i32, l: i32) -> Result<usize, AllocError>
-    ensures { IfOk result (λ k. k ≤ 256) }
+fn torus_at(out: &mut Vec<u8>, modes: [i32; 2]) -> Result<usize>
+    ensures { IfOk result (λ count. count ≤ 256) }
 {
-    let g = group::torus_2d(2, 2).group;
-    representatives(out, b"torus 2 by 2", g, 4, 256, &[k, l])
+    let group = group::torus_2d(2, 2).map_err(refused)?;
+    representatives(out, "torus 2 by 2", &group.lent(), 4, 256, &modes)
 }
 
-fn pairs(out: &mut Vec<u8>, count: usize, words: usize) -> Result<(), AllocError> {
-    lines::number(out, count)?;
-    lines::text(
+fn pairs(out: &mut Vec<u8>, count: usize, words: usize) -> Result<()> {
+    write!(
         out,
-        b" pairs of a mode list and a representative that it keeps, ",
+        "{count} pairs of a mode list and a representative that it keeps, {words} words\n"
     )?;
-    lines::number(out, words)?;
-    lines::text(out, b" words\n")
+    Ok(())
 }
 
 // Counts the representatives that the modes keep, in a line.
 fn representatives(
     out: &mut Vec<u8>,
-    name: &[u8],
-    g: Group,
+    name: &str,
+    group: &Lent<'_>,
     n: usize,
     words: usize,
     modes: &[i32],
-) -> Result<usize, AllocError>
-    ensures { IfOk result (λ k. k ≤ words) }
+) -> Result<usize>
+    ensures { IfOk result (λ count. count ≤ words) }
 {
-    let count = kept(g, n, words, modes);
-    lines::text(out, name)?;
-    lines::text(out, b", modes")?;
-    lists::modes(out, modes)?;
-    lines::text(out, b": ")?;
-    lines::number(out, count)?;
-    lines::text(out, b" representatives kept\n")?;
+    let count = kept(group, n, words, modes).map_err(refused)?;
+    write!(out, "{name}, modes")?;
+    lines::list(out, modes)?;
+    write!(out, ": {count} representatives kept\n")?;
     Ok(count)
 }
 
 // Over all words, by their numbers.
-fn kept(g: Group, n: usize, words: usize, modes: &[i32]) -> usize
-    ensures { result ≤ words }
+fn kept(group: &Lent<'_>, n: usize, words: usize, modes: &[i32]) -> Result<usize, Refusal>
+    ensures { IfOk result (λ count. count ≤ words) }
 {
     let mut count: usize = 0;
-    let mut i: usize = 0;
-    while i < words {
-        if counted(g, n, i, modes) {
+    for i in 0..words {
+        let word = word_at(n, i);
+        if size(group, n, &word, modes)? != 0 && is_representative(group, n, &word)? {
             count += 1;
         }
-        i += 1;
     }
-    count
-}
-
-// Whether word i is a representative that the modes keep.
-fn counted(g: Group, n: usize, i: usize, modes: &[i32]) -> bool {
-    let word = word_at(n, i);
-    if size(g, n, &word, modes) == 0 {
-        false
-    } else {
-        is_representative(g, n, &word)
-    }
+    Ok(count)
 }
 
 // Word i of 2 or 4 sites: the low bits of i are its X plane, the next its Z plane.
@@ -109,77 +104,52 @@ fn word_at(n: usize, i: usize) -> [u8; WORD_BYTES] {
 }
 
 // The orbit size of a word that the modes keep, and 0 of another. There are one or two modes.
-fn size(g: Group, n: usize, word: &[u8], modes: &[i32]) -> usize {
-    if modes.len() == 1 {
-        size_by(g, n, word, modes, &mut [9])
-    } else {
-        size_by(g, n, word, modes, &mut [9, 9])
+fn size(group: &Lent<'_>, n: usize, word: &[u8], modes: &[i32]) -> Result<usize, Refusal> {
+    let mut counter = [9u32; 2];
+    let places = modes.len().min(2);
+    match momentum::canonicalize_in_sector(group, n, word, modes, &mut counter[..places])? {
+        Sector::Kept(kept) => Ok(kept.size),
+        Sector::Dropped(_) => Ok(0),
     }
 }
 
-fn size_by(g: Group, n: usize, word: &[u8], modes: &[i32], counter: &mut [u32]) -> usize {
-    let answer = momentum::canonicalize_in_sector(g, n, word, modes, counter).answer;
-    let Sector::Kept(size) = answer else {
-        return 0;
-    };
-    size
-}
-
 // Whether a word is the least of its orbit.
-fn is_representative(g: Group, n: usize, word: &[u8]) -> bool {
-    let least = orbit::canonicalize(g, n, word).word;
-    let Comparison::Order(order) = pauli_word::compare(n, &least, word) else {
-        return false;
-    };
-    match order {
-        Ordering::Same => true,
-        Ordering::Less | Ordering::Greater => false,
+fn is_representative(group: &Lent<'_>, n: usize, word: &[u8]) -> Result<bool, Refusal> {
+    let least = orbit::canonicalize(group, n, word)?;
+    match pauli_word::compare(n, &least, word)? {
+        Ordering::Equal => Ok(true),
+        Ordering::Less | Ordering::Greater => Ok(false),
     }
 }
 
 // As many mode lists keep a word as its orbit has different words.
-pub fn lists(out: &mut Vec<u8>) -> Result<(), AllocError> {
-    let torus = group::torus_2d(2, 2).group;
-    keeping(out, torus, b"XIII")?;
-    keeping(out, torus, b"XXII")?;
-    keeping(out, torus, b"YIIY")?;
-    keeping(out, torus, b"ZZZZ")
+pub fn lists(out: &mut Vec<u8>) -> Result<()> {
+    let torus = group::torus_2d(2, 2).map_err(refused)?;
+    for letters in ["XIII", "XXII", "YIIY", "ZZZZ"] {
+        keeping(out, &torus.lent(), letters)?;
+    }
+    Ok(())
 }
 
-fn keeping(out: &mut Vec<u8>, torus: Group, letters: &[u8]) -> Result<(), AllocError> {
-    let word = pauli_word::from_text(letters).word;
-    lines::text(out, b"torus 2 by 2, word ")?;
-    lines::text(out, letters)?;
-    lines::text(out, b": ")?;
-    lines::number(out, lists_keeping(torus, &word))?;
-    lines::text(out, b" of 4 mode lists keep it, orbit ")?;
-    lines::number(out, size(torus, 4, &word, &[0, 0]))?;
-    lines::text(out, b"\n")
+fn keeping(out: &mut Vec<u8>, torus: &Lent<'_>, letters: &str) -> Result<()> {
+    let word = pauli_word::from_text(letters.as_bytes())
+        .map_err(refused)?
+        .word;
+    let lists = lists_keeping(torus, &word).map_err(refused)?;
+    let size = size(torus, 4, &word, &[0, 0]).map_err(refused)?;
+    write!(
+        out,
+        "torus 2 by 2, word {letters}: {lists} of 4 mode lists keep it, orbit {size}\n"
+    )?;
+    Ok(())
 }
 
-// Over all mode lists, by their numbers.
-fn lists_keeping(torus: Group, word: &[u8]) -> usize {
+fn lists_keeping(torus: &Lent<'_>, word: &[u8]) -> Result<usize, Refusal> {
     let mut count: usize = 0;
-    let mut i: usize = 0;
-    while i < 4 {
-        if keeps(torus, word, i) {
+    for modes in &TORUS_MODES {
+        if size(torus, 4, word, modes)? != 0 {
             count += 1;
         }
-        i += 1;
     }
-    count
-}
-
-fn keeps(torus: Group, word: &[u8], i: usize) -> bool {
-    let modes = modes_at(i);
-    size(torus, 4, word, &modes) != 0
-}
-
-fn modes_at(i: usize) -> [i32; 2] {
-    match i {
-        0 => [0, 0],
-        1 => [1, 0],
-        2 => [0, 1],
-        _ => [1, 1],
-    }
+    Ok(count)
 }

@@ -3,13 +3,14 @@
 
 mod counts;
 
-use std::io;
+use anyhow::Result;
 use std::io::Write;
 
-fn main(rt: HostRuntime) -> io::Result<()> {
+fn main(rt: HostRuntime) -> Result<()> {
     let mut out = Vec::new(rt.alloc());
     counts::chain(&mut out)?;
     counts::lists(&mut out)?;
     counts::torus(&mut out)?;
-    rt.stdout().write_all(&out)
+    rt.stdout().write_all(&out)?;
+    Ok(())
 }

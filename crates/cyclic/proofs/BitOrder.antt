@@ -1,12 +1,12 @@
 -- Bits ordered by the first that differs: the order is strict, any two rows of bits stand in it or are the same, and so among finitely many one is least.
+use Rattle.std.specs.declared.cmp.Ordering.{Ordering}
+use Rattle.std.specs.declared.cmp.Ordering.TheVariants.{Less, Equal, Greater}
 use Prim.Native.Nat.{ℕ, zero, suc, ◌<◌, ◌≤◌}
 use mathlib.Core.Path.{◌≡◌, refl, sym, ◌∙◌, subst}
 use mathlib.Core.Logic.{◌⊎◌, inl, inr}
 use mathlib.Core.Bool.{Bool, true, false, not, beq, true≢false, false≢true}
 use native.Mathlib.Decide.{ℕ_discrete, dec_le}
 use native.Mathlib.Omega.{arith}
-use Rattle.pauli_word.specs.declared.Ordering.{Ordering}
-use Rattle.pauli_word.specs.declared.Ordering.TheVariants.{Less, Same, Greater}
 use Rattle.packed.specs.Packed.{LessAt, Compared}
 
 -- numbers that are equal or not, by cases
@@ -49,18 +49,18 @@ less-longer n m f g h (q, l, s, a, b) = (q, omega arith, s, a, b)
 
 -- how the first n bits stand to each other
 pub compared : (n : ℕ) (f g : ℕ → Bool) → (o : Ordering) × Compared o n f g
-compared zero f g = (Same, λ q h. absurd (omega arith))
+compared zero f g = (Equal, λ q h. absurd (omega arith))
 compared (suc n) f g = go (compared n f g)
   where
     last : (a b : Bool) → f n ≡ a → g n ≡ b → ((q : ℕ) → q < n → f q ≡ g q) → (o : Ordering) × Compared o (suc n) f g
-    last true true p r h = (Same, same_more f g n h (p ∙ sym r))
-    last false false p r h = (Same, same_more f g n h (p ∙ sym r))
+    last true true p r h = (Equal, same_more f g n h (p ∙ sym r))
+    last false false p r h = (Equal, same_more f g n h (p ∙ sym r))
     last false true p r h = (Less, (n, omega arith, h, p, r))
     last true false p r h = (Greater, (n, omega arith, (λ q l. sym (h q l)), r, p))
 
     go : (o : Ordering) × Compared o n f g → (o : Ordering) × Compared o (suc n) f g
     go (Less, h) = (Less, less-longer n (suc n) f g (omega arith) h)
-    go (Same, h) = last (f n) (g n) refl refl h
+    go (Equal, h) = last (f n) (g n) refl refl h
     go (Greater, h) = (Greater, less-longer n (suc n) g f (omega arith) h)
 
 -- no row of bits is less than itself
@@ -94,7 +94,7 @@ less-or-not n f g = go (compared n f g)
   where
     go : (o : Ordering) × Compared o n f g → LessAt n f g ⊎ (LessAt n f g → ⊥)
     go (Less, h) = inl h
-    go (Same, h) = inr (less-not n f g h)
+    go (Equal, h) = inr (less-not n f g h)
     go (Greater, h) = inr (λ k. less-not n f f (λ q l. refl) (less-chain n f g f k h))
 
 -- row s is such that none of the first m rows is less

@@ -1,11 +1,11 @@
 -- The bits by which words are ordered: a word turned inside its blocks has the bits of its planes turned, and words are ordered by the first bit that differs,
 -- in the X plane and then in the Z plane.
+use Rattle.std.specs.declared.cmp.Ordering.TheVariants.{Less, Equal}
 use Prim.Native.Nat.{ℕ, ◌%◌, ◌<◌}
 use mathlib.Core.Path.{◌≡◌, ◌∙◌, ap}
 use mathlib.Core.Bool.{Bool, true}
 use mathlib.Core.List.{map}
 use lib.ListN.{get_or}
-use Rattle.pauli_word.specs.declared.Ordering.TheVariants.{Less, Same}
 use Rattle.pauli_word.specs.Word.{I, letter_of, less}
 use Rattle.action.specs.Lists.{below}
 use Rattle.action.proofs.Below.{map-below-cong}
@@ -33,4 +33,4 @@ less_by_x n x z x' z' h =
 -- of words with one X plane, a lesser Z plane makes a lesser word
 pub less_by_z : (n : ℕ) (x z x' z' : ℕ → Bool) → ((q : ℕ) → q < n → x q ≡ x' q) → LessAt n z z' → less (letters_by n x z) (letters_by n x' z') ≡ true
 less_by_z n x z x' z' e h =
-    order_less (letters_by n x z) (letters_by n x' z') (order_letters n x z x' z' ∙ rw (order_listed Same n x x' e) (order_listed Less n z z' h))
+    order_less (letters_by n x z) (letters_by n x' z') (order_letters n x z x' z' ∙ rw (order_listed Equal n x x' e) (order_listed Less n z z' h))

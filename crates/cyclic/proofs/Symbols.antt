@@ -1,4 +1,6 @@
 -- A block of a plane as a ring of symbols, runs of bits that are compared: what `Scans` asks of symbols, and what the scan finds as turns of the block.
+use Rattle.std.specs.declared.cmp.Ordering.{Ordering}
+use Rattle.std.specs.declared.cmp.Ordering.TheVariants.{Less, Equal, Greater}
 use Prim.Native.Nat.{ℕ, suc, ◌+◌, ◌*◌, ◌-◌, ◌/◌, ◌%◌, ◌<◌, ◌≤◌, min, max}
 use mathlib.Core.Path.{◌≡◌, refl, sym, ◌∙◌, ap, subst, subst₂, fun_ext}
 use mathlib.Core.Bool.{Bool, true, false, cond}
@@ -7,8 +9,6 @@ use native.Mathlib.Omega.{arith}
 use lib.Dec.{ltb, eqb}
 use borrow.Author.Tests.{eqb-true, eqb-false, lt-ltb, le-ltb}
 use lib.Arith.{digits_lt, digits_div, digits_mod, mod-mul}
-use Rattle.pauli_word.specs.declared.Ordering.{Ordering}
-use Rattle.pauli_word.specs.declared.Ordering.TheVariants.{Less, Same, Greater}
 use Rattle.packed.specs.Packed.{rotated, LessAt, Compared}
 use Rattle.packed.proofs.Masks.{block_end}
 use Rattle.cyclic.specs.Narrowing.{around, parted, next_scan, period_of, Narrowed}
@@ -190,7 +190,7 @@ module _ (h : ℕ → Bool) (b start step m : ℕ) (whole : step * m ≡ b) (low
       → Compared o step (symbol h b start step (s.i + s.k)) (symbol h b start step (s.j + s.k))
       → Scanning m E L (next_scan o s).i (next_scan o s).j (next_scan o s).k
   scan-next Less s w l c = parted-stands s.i (s.j + s.k + 1) (scan-less m E L (symbols-ring h b start step m whole) w l c)
-  scan-next Same s w l c = scan-same m E L (symbols-ring h b start step m whole) w c
+  scan-next Equal s w l c = scan-same m E L (symbols-ring h b start step m whole) w c
   scan-next Greater s w l c = parted-stands (s.i + s.k + 1) s.j (scan-greater m E L (symbols-ring h b start step m whole) w l c)
 
   -- what the scan finds are the turns that give the least bits
@@ -237,7 +237,7 @@ module _ (h : ℕ → Bool) (b start step m : ℕ) (whole : step * m ≡ b) (low
 
           by-compared : (o : Ordering) × Compared o b (around h b r) (around h b u) → LessAt b (around h b r) (around h b u)
           by-compared (Less, k) = k
-          by-compared (Same, k) = absurd (tied lost)
+          by-compared (Equal, k) = absurd (tied lost)
             where
               tied : Loses m E L (u / step) → ⊥
               tied (t, g) = never t (less-same b (turn_of h b start step t) (turn_of h b start step (u / step)) (around h b r) (turn-under t (u / step) g) (λ q l. sym (own u e q) ∙ sym (k q l)))
@@ -292,7 +292,7 @@ parted_grows i j n l = go (eqb i j) refl
 -- a scan's places never come back
 pub scan_grows : (o : Ordering) (s : Scan) → s.i + s.j + s.k < (next_scan o s).i + (next_scan o s).j + (next_scan o s).k
 scan_grows Less s = parted_grows s.i (s.j + s.k + 1) (s.i + s.j + s.k) (omega arith)
-scan_grows Same s = omega arith
+scan_grows Equal s = omega arith
 scan_grows Greater s = parted_grows (s.i + s.k + 1) s.j (s.i + s.j + s.k) (omega arith)
 
 -- a block is some whole symbols

@@ -1,7 +1,7 @@
 -- Turns told apart by bits: the scan over one block of a plane, step by step, and the turns that bits in blocks leave of others.
+use Rattle.std.specs.declared.cmp.Ordering.{Ordering}
+use Rattle.std.specs.declared.cmp.Ordering.TheVariants.{Less, Equal, Greater}
 use Rattle.std.specs.Prelude.{ℕ, ◌+◌, ◌*◌, ◌-◌, ◌%◌, ◌<◌, min, max, ◌≡◌, Bool, cond, List, ltb, eqb}
-use Rattle.pauli_word.specs.declared.Ordering.{Ordering}
-use Rattle.pauli_word.specs.declared.Ordering.TheVariants.{Less, Same, Greater}
 use Rattle.packed.specs.Packed.{bit_of, LessAt, rotated}
 use Rattle.cyclic.specs.declared.scan.Scan.{Scan}
 
@@ -24,7 +24,7 @@ parted i j = record { i = i; j = cond (eqb i j) (j + 1) j; k = 0 }
 -- the scan after the symbols k on from i and j were compared
 abbrev pub next_scan : Ordering → Scan → Scan
 next_scan Less s = parted s.i (s.j + s.k + 1)
-next_scan Same s = record { i = s.i; j = s.j; k = s.k + 1 }
+next_scan Equal s = record { i = s.i; j = s.j; k = s.k + 1 }
 next_scan Greater s = parted (s.i + s.k + 1) s.j
 
 -- the period that a scan of m symbols came to: the distance of its places if they agree all round, or else all

@@ -6,7 +6,7 @@ ghost use Rattle.pauli_word.specs.Bytes.{AcceptedWord, letters_in, bytes_of};
 ghost use Rattle.permutation.specs.Generators.{row_at};
 ghost use Rattle.action.specs.Orbit.{least, forward, fixes, orbit_size};
 ghost use Rattle.action.specs.Sector.{trivial, keeps};
-ghost use Rattle.elements.specs.HeldGroup.{generators_in, Tables};
+ghost use Rattle.elements.specs.HeldGroup.{HoldsGroup, generators_held};
 ghost use Rattle.packed.specs.Packed.{word_bits, plane_words};
 ghost use Rattle.rotation.specs.Rotation.{Blocks, Rotates};
 ghost use Rattle.cyclic.specs.Cyclic.{Found};
@@ -14,6 +14,7 @@ ghost use Rattle.cyclic.specs.Cyclic.{Found};
 use crate::Turn;
 use packed::{PLANE_WORDS, WORD_BITS};
 use pauli_word::WORD_BYTES;
+use permutation::Lent;
 use rotation::planes;
 
 // The least word of an orbit, the smallest index that reaches it, and the step: the indices that fix the word are its multiples.
@@ -54,23 +55,19 @@ fn least_within(word: &[u8], sites: usize, block: usize, x: &mut [u64], z: &mut 
 }
 
 // The least word of a word's orbit, the smallest index that reaches it, and the step.
-pub fn canonicalize_block_cyclic(
-    targets: &[u16],
-    orders: &[u32],
-    sites: usize,
-    block: usize,
-    word: &[u8],
-) -> LeastTurn
-    requires tables { Tables 1 sites targets.now orders.now }
-    requires rotates { Rotates sites 1 block (row_at sites targets.now 0) × (get_or orders.now 0 0 ≡ block) }
-    requires accepted_word { AcceptedWord sites word.now }
-    ensures word { result.word ≡ bytes_of (least (generators_in 1 sites targets.now orders.now) (letters_in sites word.now)) }
-    ensures index { result.index ≡ forward (generators_in 1 sites targets.now orders.now) (letters_in sites word.now) }
+pub fn canonicalize_block_cyclic(group: &Lent<'_>, block: usize, word: &[u8]) -> LeastTurn
+    requires tables { HoldsGroup group.now }
+    requires one { group.now.generators ≡ 1 }
+    requires rotates { Rotates group.now.sites 1 block (row_at group.now.sites group.now.targets.now 0) × (get_or group.now.orders.now 0 0 ≡ block) }
+    requires accepted_word { AcceptedWord group.now.sites word.now }
+    ensures word { result.word ≡ bytes_of (least (generators_held group.now) (letters_in group.now.sites word.now)) }
+    ensures index { result.index ≡ forward (generators_held group.now) (letters_in group.now.sites word.now) }
     ensures positive { 0 < result.step }
-    ensures fixing { (i : ℕ) → i < block → fixes (generators_in 1 sites targets.now orders.now) (letters_in sites word.now) i ≡ eqb (i % result.step) 0 }
-    ensures size { orbit_size (generators_in 1 sites targets.now orders.now) (letters_in sites word.now) ≡ result.step }
-    ensures kept { (ks : List ℤ) → keeps (generators_in 1 sites targets.now orders.now) ks (letters_in sites word.now) ≡ trivial (generators_in 1 sites targets.now orders.now) ks result.step }
+    ensures fixing { (i : ℕ) → i < block → fixes (generators_held group.now) (letters_in group.now.sites word.now) i ≡ eqb (i % result.step) 0 }
+    ensures size { orbit_size (generators_held group.now) (letters_in group.now.sites word.now) ≡ result.step }
+    ensures kept { (ks : List ℤ) → keeps (generators_held group.now) ks (letters_in group.now.sites word.now) ≡ trivial (generators_held group.now) ks result.step }
 {
+    let Lent { sites, .. } = *group;
     let m = (sites + WORD_BITS - 1) / WORD_BITS;
     let mut x = [0u64; PLANE_WORDS];
     let mut z = [0u64; PLANE_WORDS];

@@ -14,6 +14,7 @@ pub fn refine(ws: &[u64], block: usize, sites: usize, turn: Turn) -> Turn
 {
     let mut left = turn;
     let mut base: usize = 0;
+    // A while: with `step_by` the last turn leaves without the fact that the blocks are at their end, and the proof did not close.
     while base < sites {
         let step = left.step;
         if step == block {

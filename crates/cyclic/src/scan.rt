@@ -7,7 +7,7 @@ ghost use Rattle.cyclic.specs.Narrowing.{round_at, symbol_at, parted, next_scan,
 
 use crate::Turn;
 use packed::WORD_BITS;
-use pauli_word::Ordering;
+use std::cmp::Ordering;
 
 // Two places of a ring of symbols, and how far their rotations are known to agree.
 #[derive(Clone, Copy)]
@@ -47,8 +47,7 @@ pub fn cmp(ws: &[u64], base: usize, block: usize, step: usize, p: usize, q: usiz
     requires step_bound_2 { q + step ≤ block + block }
     ensures { Compared result step (λ y. round_at ws.now base block (p + y)) (λ y. round_at ws.now base block (q + y)) }
 {
-    let mut y: usize = 0;
-    while y < step {
+    for y in 0..step {
         let a = bit(ws, base, block, p + y);
         let b = bit(ws, base, block, q + y);
         if a != b {
@@ -57,9 +56,8 @@ pub fn cmp(ws: &[u64], base: usize, block: usize, step: usize, p: usize, q: usiz
             }
             return Ordering::Less;
         }
-        y += 1;
     }
-    Ordering::Same
+    Ordering::Equal
 }
 
 // The scan anew from i and j, or from past j where the two met.
@@ -81,7 +79,7 @@ fn next(order: Ordering, s: Scan) -> Scan
 {
     match order {
         Ordering::Less => anew(s.i, s.j + s.k + 1),
-        Ordering::Same => Scan {
+        Ordering::Equal => Scan {
             i: s.i,
             j: s.j,
             k: s.k + 1,
@@ -128,6 +126,7 @@ pub fn narrow(ws: &[u64], base: usize, block: usize, turn: Turn, m: usize) -> Tu
     ensures { Narrowed block block (λ y. bit_of ws.now (base + y)) turn.start turn.step result.start result.step }
 {
     let mut s = Scan { i: 0, j: 1, k: 0 };
+    // A while: three places move, each by what was compared.
     while s.i < m && s.j < m && s.k < m {
         let order = compare(ws, base, block, turn, m, s);
         s = next(order, s);

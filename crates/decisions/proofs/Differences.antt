@@ -146,11 +146,15 @@ module _ {k n : ℕ} {targets orders : List ℕ} (t : Tables k n targets orders)
   positive = order-positive-at t 0 some
 
   -- the digits are below the order, and the sum below that of the group
-  pub stands-low : low < first
+  stands-low : low < first
   stands-low = omega (arith, s.1, mod-lt d positive)
 
-  pub stands-turn : turn < first
+  stands-turn : turn < first
   stands-turn = omega (arith, s.2, mod-lt sum positive)
+
+  -- the first digit is no larger than the index
+  pub stands-index : low ≤ d
+  stands-index = omega (arith, s.1, div-add-mod d first)
 
   pub stands-sum : sum < order_of all
   stands-sum = rw s.0 (add-below all (valid_positive t.valid) d b)

@@ -1,6 +1,8 @@
 -- One traversal of the indices: what an index does to a word, by the bytes that it reaches, and how many of the indices so far fix the word.
 -- What carries it: the numbers below i + 1 are those below i, and i (`below_next`), so that the test of index i takes what is known of the indices
 -- below i to those below i + 1 (`passed-moves`, `passed-fixes`), or shows that the modes drop the word (`placed-broken`).
+use Rattle.std.specs.declared.cmp.Ordering.{Ordering}
+use Rattle.std.specs.declared.cmp.Ordering.TheVariants.{Equal}
 use Prim.Native.Nat.{ℕ, ◌+◌, ◌≤◌, ◌<◌, ◌/◌}
 use mathlib.Core.Path.{◌≡◌, refl, sym, ap, ◌∙◌}
 use mathlib.Core.Logic.{⊎_elim}
@@ -10,8 +12,6 @@ use native.Mathlib.Omega.{arith}
 use lib.IntN.{ℤ}
 use lib.ListN.{length}
 use Rattle.pauli_word.specs.Limits.{plane_length}
-use Rattle.pauli_word.specs.declared.Ordering.{Ordering}
-use Rattle.pauli_word.specs.declared.Ordering.TheVariants.{Same}
 use Rattle.pauli_word.specs.Word.{Word, same}
 use Rattle.pauli_word.specs.Bytes.{plane_bits, AcceptedWord, letters_in, bytes_of}
 use Rattle.pauli_word.specs.Calls.{order_of_bits}
@@ -115,10 +115,10 @@ module _ {k n : ℕ} {targets orders : List ℕ} (t : Tables k n targets orders)
   unfolding fixes
   reached = ap (λ (u : Word). same u w) (encoded-decode plane_length (reach gs i w) (reach-length gs i w ∙ decode-length ok) t.sites e)
 
-  pub bytes-fixed : o ≡ Same → fixes gs w i ≡ true
+  pub bytes-fixed : o ≡ Equal → fixes gs w i ≡ true
   bytes-fixed h = sym reached ∙ same_taken accepted ok eo h
 
-  pub bytes-moved : (o ≡ Same → ⊥) → fixes gs w i ≡ false
+  pub bytes-moved : (o ≡ Equal → ⊥) → fixes gs w i ≡ false
   bytes-moved h = sym reached ∙ same_left accepted ok eo h
 
 -- ---- the indices so far

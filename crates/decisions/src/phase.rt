@@ -2,10 +2,10 @@
 ghost use Rattle.std.specs.Prelude.{◌≡◌, ◌*◌, ◌/◌, ◌%◌, ◌<◌, length};
 ghost use Rattle.action.specs.Index.{order_of, digits};
 ghost use Rattle.action.specs.Sector.{modulus as modulusOf, reduced, numerator as numeratorOf, trivial as trivialAt};
-ghost use Rattle.elements.specs.HeldGroup.{generators_in, Tables};
+ghost use Rattle.elements.specs.HeldGroup.{HoldsGroup, generators_held};
 ghost use Rattle.decisions.specs.Decisions.{numerators};
 
-use permutation::MAX_GENERATORS;
+use permutation::{Lent, MAX_GENERATORS};
 
 // A mode reduced to 0 .. order - 1: -1 becomes order - 1.
 pub fn reduced_mode(mode: i32, order: u32) -> u64
@@ -29,95 +29,57 @@ pub fn phase(mode: i32, digit: u32, order: u32, modulus: u64) -> u64
 }
 
 // The numerator of a counter.
-pub fn numerator(
-    targets: &[u16],
-    orders: &[u32],
-    generators: usize,
-    sites: usize,
-    modulus: usize,
-    modes: &[i32],
-    counter: &[u32],
-) -> usize
-    requires tables { Tables generators sites targets.now orders.now }
-    requires modulus_value { modulus ≡ modulusOf (generators_in generators sites targets.now orders.now) }
-    requires modes_len { (length modes.now ≡ generators) × (length counter.now ≡ generators) }
-    ensures { result ≡ numeratorOf (generators_in generators sites targets.now orders.now) modes.now counter.now }
+pub fn numerator(group: &Lent<'_>, modulus: usize, modes: &[i32], counter: &[u32]) -> usize
+    requires tables { HoldsGroup group.now }
+    requires modulus_value { modulus ≡ modulusOf (generators_held group.now) }
+    requires modes_len { (length modes.now ≡ group.now.generators) × (length counter.now ≡ group.now.generators) }
+    ensures { result ≡ numeratorOf (generators_held group.now) modes.now counter.now }
 {
+    let Lent {
+        orders,
+        generators,
+        ..
+    } = *group;
     let m = modulus as u64;
     let mut sum: u64 = 0;
-    let mut g = 0;
-    while g < generators {
+    for g in 0..generators {
         sum = sum + phase(modes[g], counter[g], orders[g], m);
-        g += 1;
     }
     (sum % m) as usize
 }
 
 // The numerator of an index.
-pub fn numerator_at(
-    targets: &[u16],
-    orders: &[u32],
-    generators: usize,
-    sites: usize,
-    modulus: usize,
-    modes: &[i32],
-    index: usize,
-) -> usize
-    requires tables { Tables generators sites targets.now orders.now }
-    requires modulus_value { modulus ≡ modulusOf (generators_in generators sites targets.now orders.now) }
-    requires modes_len { length modes.now ≡ generators }
-    ensures { result ≡ numeratorOf (generators_in generators sites targets.now orders.now) modes.now (digits (generators_in generators sites targets.now orders.now) index) }
+pub fn numerator_at(group: &Lent<'_>, modulus: usize, modes: &[i32], index: usize) -> usize
+    requires tables { HoldsGroup group.now }
+    requires modulus_value { modulus ≡ modulusOf (generators_held group.now) }
+    requires modes_len { length modes.now ≡ group.now.generators }
+    ensures { result ≡ numeratorOf (generators_held group.now) modes.now (digits (generators_held group.now) index) }
 {
+    let Lent { generators, .. } = *group;
     let mut counter = [0u32; MAX_GENERATORS];
-    elements::index::fill_counter(targets, orders, generators, sites, index, &mut counter);
-    numerator(
-        targets,
-        orders,
-        generators,
-        sites,
-        modulus,
-        modes,
-        &counter[0..generators],
-    )
+    elements::index::fill_counter(group, index, &mut counter);
+    numerator(group, modulus, modes, &counter[0..generators])
 }
 
 // Whether the character of an index is 1.
-pub fn trivial(
-    targets: &[u16],
-    orders: &[u32],
-    generators: usize,
-    sites: usize,
-    modulus: usize,
-    modes: &[i32],
-    index: usize,
-) -> bool
-    requires tables { Tables generators sites targets.now orders.now }
-    requires modulus_value { modulus ≡ modulusOf (generators_in generators sites targets.now orders.now) }
-    requires modes_len { length modes.now ≡ generators }
-    ensures { result ≡ trivialAt (generators_in generators sites targets.now orders.now) modes.now index }
+pub fn trivial(group: &Lent<'_>, modulus: usize, modes: &[i32], index: usize) -> bool
+    requires tables { HoldsGroup group.now }
+    requires modulus_value { modulus ≡ modulusOf (generators_held group.now) }
+    requires modes_len { length modes.now ≡ group.now.generators }
+    ensures { result ≡ trivialAt (generators_held group.now) modes.now index }
 {
-    numerator_at(targets, orders, generators, sites, modulus, modes, index) == 0
+    numerator_at(group, modulus, modes, index) == 0
 }
 
 // The numerators of all indices below the order.
-pub fn fill_table(
-    targets: &[u16],
-    orders: &[u32],
-    generators: usize,
-    sites: usize,
-    modulus: usize,
-    modes: &[i32],
-    list: &mut [usize],
-)
-    requires tables { Tables generators sites targets.now orders.now }
-    requires modulus_value { modulus ≡ modulusOf (generators_in generators sites targets.now orders.now) }
-    requires modes_len { length modes.now ≡ generators }
-    requires list_len { length list.old ≡ order_of (generators_in generators sites targets.now orders.now) }
-    ensures { list.new ≡ numerators (generators_in generators sites targets.now orders.now) modes.now }
+pub fn fill_table(group: &Lent<'_>, modulus: usize, modes: &[i32], list: &mut [usize])
+    requires tables { HoldsGroup group.now }
+    requires modulus_value { modulus ≡ modulusOf (generators_held group.now) }
+    requires modes_len { length modes.now ≡ group.now.generators }
+    requires list_len { length list.old ≡ order_of (generators_held group.now) }
+    ensures { list.new ≡ numerators (generators_held group.now) modes.now }
 {
-    let mut i = 0;
-    while i < list.len() {
-        list[i] = numerator_at(targets, orders, generators, sites, modulus, modes, i);
-        i += 1;
+    for i in 0..list.len() {
+        list[i] = numerator_at(group, modulus, modes, i);
     }
 }

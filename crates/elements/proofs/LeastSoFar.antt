@@ -1,5 +1,7 @@
 -- The least word so far: of the first i entries of the orbit list, and its first place among them. The next entry takes its place exactly if it
 -- is less, and then no entry before it is the same; otherwise the first place stays, since the list starts at the word itself.
+use Rattle.std.specs.declared.cmp.Ordering.{Ordering}
+use Rattle.std.specs.declared.cmp.Ordering.TheVariants.{Less, Equal, Greater}
 use Prim.Native.Nat.{ℕ, suc, ◌+◌, ◌<◌}
 use mathlib.Core.Path.{◌≡◌, refl, sym, ap, ap₂, ◌∙◌}
 use mathlib.Core.Logic.{◌⊎◌, inl, inr, ⊎_elim}
@@ -9,8 +11,6 @@ use native.Mathlib.Nat.{add-zero, zero-add, suc-add, eq-zero-or-pos}
 use native.Mathlib.Omega.{arith}
 use lib.ListN.{length}
 use Rattle.pauli_word.specs.Limits.{plane_length}
-use Rattle.pauli_word.specs.declared.Ordering.{Ordering}
-use Rattle.pauli_word.specs.declared.Ordering.TheVariants.{Less, Same, Greater}
 use Rattle.pauli_word.specs.Word.{Word, same, less}
 use Rattle.pauli_word.specs.Bytes.{plane_bits, AcceptedWord, letters_in, bytes_of}
 use Rattle.pauli_word.specs.Calls.{order_of_words, order_of_bits}
@@ -119,7 +119,7 @@ pub order_less : (v w : Word) → order_of_words v w ≡ Less → less v w ≡ t
 unfolding order_of_words
 order_less v w = go (less v w) (less w v)
   where
-    go : (a b : Bool) → cond a Less (cond b Greater Same) ≡ Less → a ≡ true
+    go : (a b : Bool) → cond a Less (cond b Greater Equal) ≡ Less → a ≡ true
     go true b e = refl
     go false true e = let z : ◌≡◌ {A = ℕ} 0 1 = cc in absurd (omega arith)
     go false false e = let z : ◌≡◌ {A = ℕ} 0 1 = cc in absurd (omega arith)
@@ -128,22 +128,22 @@ pub order_not-less : (v w : Word) → (order_of_words v w ≡ Less → ⊥) → 
 unfolding order_of_words
 order_not-less v w = go (less v w) (less w v)
   where
-    go : (a b : Bool) → (cond a Less (cond b Greater Same) ≡ Less → ⊥) → a ≡ false
+    go : (a b : Bool) → (cond a Less (cond b Greater Equal) ≡ Less → ⊥) → a ≡ false
     go true b h = absurd (h refl)
     go false b h = refl
 
-pub order_same : (v w : Word) → length v ≡ length w → order_of_words v w ≡ Same → same v w ≡ true
+pub order_same : (v w : Word) → length v ≡ length w → order_of_words v w ≡ Equal → same v w ≡ true
 unfolding order_of_words
 order_same v w l = go (less v w) (less w v) (less-total v w l)
   where
-    go : (a b : Bool) → (a ≡ true) ⊎ ((v ≡ w) ⊎ (b ≡ true)) → cond a Less (cond b Greater Same) ≡ Same → same v w ≡ true
+    go : (a b : Bool) → (a ≡ true) ⊎ ((v ≡ w) ⊎ (b ≡ true)) → cond a Less (cond b Greater Equal) ≡ Equal → same v w ≡ true
     go true b t e = let z : ◌≡◌ {A = ℕ} 0 1 = cc in absurd (omega arith)
     go false true t e = let z : ◌≡◌ {A = ℕ} 0 1 = cc in absurd (omega arith)
     go false false (inl h) e = absurd (false≢true h)
     go false false (inr (inl h)) e = rw h (same_refl w)
     go false false (inr (inr h)) e = absurd (false≢true h)
 
-pub order_not-same : (v w : Word) → (order_of_words v w ≡ Same → ⊥) → same v w ≡ false
+pub order_not-same : (v w : Word) → (order_of_words v w ≡ Equal → ⊥) → same v w ≡ false
 unfolding order_of_words
 order_not-same v w h = go (same v w) refl
   where
@@ -159,11 +159,11 @@ module _ {n : ℕ} {here best : List ℕ} (h : AcceptedWord n here) (b : Accepte
   pub less-left : (o ≡ Less → ⊥) → less (letters_in n here) (letters_in n best) ≡ false
   less-left f = order_not-less (letters_in n here) (letters_in n best) (λ e. f (eo ∙ order_words h b ∙ e))
 
-  pub same_taken : o ≡ Same → same (letters_in n here) (letters_in n best) ≡ true
+  pub same_taken : o ≡ Equal → same (letters_in n here) (letters_in n best) ≡ true
   same_taken e =
       order_same (letters_in n here) (letters_in n best) (decode-length h ∙ sym (decode-length b)) (sym (eo ∙ order_words h b) ∙ e)
 
-  pub same_left : (o ≡ Same → ⊥) → same (letters_in n here) (letters_in n best) ≡ false
+  pub same_left : (o ≡ Equal → ⊥) → same (letters_in n here) (letters_in n best) ≡ false
   same_left f = order_not-same (letters_in n here) (letters_in n best) (λ e. f (eo ∙ order_words h b ∙ e))
 
 -- the next entry takes the lead or leaves it

@@ -22,13 +22,11 @@ pub fn unpack(word: &[u8], sites: usize, letters: &mut [u8])
     requires letters_len { length letters.old ≡ sites }
     ensures { letters.new ≡ codes (letters_in sites word.now) }
 {
-    let mut q = 0;
-    while q < sites {
+    for q in 0..sites {
         let at = q / 8;
         let x = (word[at] >> (q % 8)) % 2;
         let z = (word[PLANE_BYTES + at] >> (q % 8)) % 2;
         letters[q] = x + 2 * z;
-        q += 1;
     }
 }
 
@@ -38,11 +36,9 @@ pub fn move_letters(perm: &[u16], from: &[u8], to: &mut [u8])
     requires to_len { length to.old ≡ length from.now }
     ensures { (w : Word) → from.now ≡ codes w → to.new ≡ codes (moveBy perm.now w) }
 {
-    let mut q = 0;
-    while q < from.len() {
+    for q in 0..from.len() {
         let target = perm[q] as usize;
         to[target] = from[q];
-        q += 1;
     }
 }
 
@@ -54,9 +50,7 @@ pub fn pack_byte(letters: &[u8]) -> PlaneBytes
 {
     let mut x = 0u8;
     let mut z = 0u8;
-    let mut k = letters.len();
-    while 0 < k {
-        k -= 1;
+    for k in (0..letters.len()).rev() {
         let c = letters[k];
         x = c % 2 + 2 * x;
         z = c / 2 % 2 + 2 * z;
@@ -80,6 +74,7 @@ pub fn pack(letters: &[u8]) -> [u8; WORD_BYTES]
     let mut out = [0u8; WORD_BYTES];
     let mut start = 0;
     let mut j = 0;
+    // A while: over `chunks(8)` the proof did not close.
     while start < letters.len() {
         let end = byte_end(start, letters.len());
         let b = pack_byte(&letters[start..end]);

@@ -5,10 +5,12 @@ ghost use Rattle.pauli_word.specs.Bytes.{AcceptedWord, letters_in, bytes_of};
 ghost use Rattle.action.specs.Permutation.{Permutes};
 ghost use Rattle.action.specs.Index.{order_of, digits};
 ghost use Rattle.action.specs.Orbit.{move as moveBy, stepped, least, forward};
-ghost use Rattle.elements.specs.HeldGroup.{generators_in, Tables};
+ghost use Rattle.elements.specs.HeldGroup.{HoldsGroup, generators_held};
 
 use crate::letters;
-use pauli_word::{MAX_SITES, Ordering, WORD_BYTES};
+use pauli_word::{MAX_SITES, WORD_BYTES};
+use permutation::Lent;
+use std::cmp::Ordering;
 
 // The least word of an orbit, and the smallest index that reaches it.
 #[derive(Clone, Copy)]
@@ -29,21 +31,19 @@ pub fn apply_generator(perm: &[u16], sites: usize, word: &[u8]) -> [u8; WORD_BYT
 }
 
 // The walk's step from the entry of an index to the next: moved by generator 0, and by each next one while the digits below roll over.
-pub fn advance(
-    targets: &[u16],
-    orders: &[u32],
-    generators: usize,
-    sites: usize,
-    index: usize,
-    word: &mut [u8],
-)
-    requires tables { Tables generators sites targets.now orders.now }
-    requires accepted_word { AcceptedWord sites word.old }
-    ensures { word.new ≡ bytes_of (stepped (generators_in generators sites targets.now orders.now) (digits (generators_in generators sites targets.now orders.now) index) (letters_in sites word.old)) }
+pub fn advance(group: &Lent<'_>, index: usize, word: &mut [u8])
+    requires tables { HoldsGroup group.now }
+    requires accepted_word { AcceptedWord group.now.sites word.old }
+    ensures { word.new ≡ bytes_of (stepped (generators_held group.now) (digits (generators_held group.now) index) (letters_in group.now.sites word.old)) }
 {
+    let Lent {
+        targets,
+        orders,
+        generators,
+        sites,
+    } = *group;
     let mut rest = index;
-    let mut g = 0;
-    while g < generators {
+    for g in 0..generators {
         let start = MAX_SITES * g;
         let end = start + sites;
         let moved = apply_generator(&targets[start..end], sites, word);
@@ -53,7 +53,6 @@ pub fn advance(
             return;
         }
         rest = rest / o;
-        g += 1;
     }
 }
 
@@ -72,30 +71,22 @@ pub fn take_less(here: &[u8], sites: usize, i: usize, best: &mut [u8], index: us
 }
 
 // The least word of the orbit, by walking it whole, and the smallest index that reaches it.
-pub fn canonicalize_odometer(
-    targets: &[u16],
-    orders: &[u32],
-    generators: usize,
-    sites: usize,
-    order: usize,
-    word: &[u8],
-) -> LeastWord
-    requires tables { Tables generators sites targets.now orders.now }
-    requires accepted_word { AcceptedWord sites word.now }
-    requires order_value { order ≡ order_of (generators_in generators sites targets.now orders.now) }
-    ensures word { result.word ≡ bytes_of (least (generators_in generators sites targets.now orders.now) (letters_in sites word.now)) }
-    ensures index { result.index ≡ forward (generators_in generators sites targets.now orders.now) (letters_in sites word.now) }
+pub fn canonicalize_odometer(group: &Lent<'_>, order: usize, word: &[u8]) -> LeastWord
+    requires tables { HoldsGroup group.now }
+    requires accepted_word { AcceptedWord group.now.sites word.now }
+    requires order_value { order ≡ order_of (generators_held group.now) }
+    ensures word { result.word ≡ bytes_of (least (generators_held group.now) (letters_in group.now.sites word.now)) }
+    ensures index { result.index ≡ forward (generators_held group.now) (letters_in group.now.sites word.now) }
 {
+    let Lent { sites, .. } = *group;
     let mut here = [0u8; WORD_BYTES];
     pauli_word::inner::copy(word, &mut here);
     let mut best = [0u8; WORD_BYTES];
     pauli_word::inner::copy(word, &mut best);
     let mut index = 0;
-    let mut i = 0;
-    while i < order {
+    for i in 0..order {
         index = take_less(&here, sites, i, &mut best, index);
-        advance(targets, orders, generators, sites, i, &mut here);
-        i += 1;
+        advance(group, i, &mut here);
     }
     LeastWord { word: best, index }
 }

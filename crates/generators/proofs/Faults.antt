@@ -7,7 +7,6 @@ use mathlib.Core.List.{List, [], ◌∷◌}
 use lib.ListN.{length}
 use borrow.Author.Tests.{eq-eqb, ne_eqb, lt-ltb, le-ltb}
 use Rattle.outcome.specs.declared.Refusal.{Refusal}
-use Rattle.outcome.specs.declared.Refusal.TheVariants as Refusal
 use Rattle.outcome.specs.Outcome.{answer, refusal_of, verdict, alone}
 use Rattle.outcome.proofs.Outcomes.{one-refused, one-answered, refused-broken, first-refuses}
 use Rattle.action.specs.Permutation.{exact_order}

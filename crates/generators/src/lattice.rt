@@ -7,31 +7,31 @@ ghost use Rattle.action.specs.Lattice.{shifted as shiftedSite, shifts};
 ghost use Rattle.permutation.specs.Limits.{target_places, max_generators};
 ghost use Rattle.generators.specs.Parts.{sides_outcome};
 ghost use Rattle.generators.specs.Tables.{filled, placed_all};
-ghost use Rattle.outcome.specs.Outcome.{outcome_of_number};
+ghost use Rattle.outcome.specs.Outcome.{outcome_of};
 
-use outcome::{Number, Refusal};
+use outcome::Refusal;
 use pauli_word::MAX_SITES;
 
 // The sites of a lattice by its sides: their product, found without overflow; or 26, 27.
-pub fn sites_of(a: usize, b: usize, c: usize) -> Number
-    ensures { outcome_of_number result ≡ sides_outcome a b c }
+pub fn sites_of(a: usize, b: usize, c: usize) -> Result<usize, Refusal>
+    ensures { outcome_of result ≡ sides_outcome a b c }
 {
     if a == 0 {
-        return Number::Refused(Refusal::ZeroSide);
+        return Err(Refusal::ZeroSide);
     }
     if b == 0 {
-        return Number::Refused(Refusal::ZeroSide);
+        return Err(Refusal::ZeroSide);
     }
     if c == 0 {
-        return Number::Refused(Refusal::ZeroSide);
+        return Err(Refusal::ZeroSide);
     }
     if MAX_SITES / a < b {
-        return Number::Refused(Refusal::SidesTooLarge);
+        return Err(Refusal::SidesTooLarge);
     }
     if MAX_SITES / (a * b) < c {
-        return Number::Refused(Refusal::SidesTooLarge);
+        return Err(Refusal::SidesTooLarge);
     }
-    Number::Value(a * b * c)
+    Ok(a * b * c)
 }
 
 // Where a shift along an axis sends site q.
@@ -49,10 +49,8 @@ pub fn fill_shift(row: &mut [u16], stride: usize, side: usize)
     requires { (0 < stride) × (0 < side) × (stride * side ≤ max_sites) × (length row.old ≤ max_sites) }
     ensures { row.new ≡ map (shiftedSite stride side) (below (length row.old)) }
 {
-    let mut q = 0;
-    while q < row.len() {
+    for q in 0..row.len() {
         row[q] = shifted(stride, side, q) as u16;
-        q += 1;
     }
 }
 
@@ -65,14 +63,12 @@ pub fn fill_shifts(sides: &[usize], sites: usize, targets: &mut [u16], orders: &
     ensures orders { orders.new ≡ filled max_generators (map (λ g. g.order) (shifts sites 1 sides.now)) }
 {
     let mut stride = 1;
-    let mut g = 0;
-    while g < sides.len() {
+    for g in 0..sides.len() {
         let side = sides[g];
         let start = MAX_SITES * g;
         let end = start + sites;
         fill_shift(&mut targets[start..end], stride, side);
         orders[g] = side as u32;
         stride = stride * side;
-        g += 1;
     }
 }

@@ -2,31 +2,32 @@
 // Whoever calls a function here owes its `requires`.
 ghost use Rattle.std.specs.Prelude.{◌≡◌, false, ℕ, ◌≤◌, ◌<◌, length, get_or, replicate};
 ghost use Rattle.pauli_word.specs.Limits.{max_sites};
-ghost use Rattle.outcome.specs.Outcome.{alone, outcome_of_verdict, outcome_of_number};
+ghost use Rattle.outcome.specs.Outcome.{alone, outcome_of};
 ghost use Rattle.permutation.specs.Limits.{target_places, max_generators};
 ghost use Rattle.permutation.specs.Generators.{ends_inside, perms_of, perm_check, perms_check};
 ghost use Rattle.generators.specs.Tables.{placed_all, passing};
 ghost use Rattle.generators.specs.Parts.{scan_outcome};
 
-use outcome::{Number, Refusal, Verdict};
+use outcome::Refusal;
 use pauli_word::MAX_SITES;
 
 // How many generators a list writes, or 2.
-pub fn count_generators(list: &[u32]) -> Number
-    ensures { outcome_of_number result ≡ scan_outcome list.now }
+pub fn count_generators(list: &[u32]) -> Result<usize, Refusal>
+    ensures { outcome_of result ≡ scan_outcome list.now }
 {
     let mut at = 0;
     let mut count = 0;
+    // A while: each generator says where the next one begins.
     while at < list.len() {
         let n = list[at] as usize;
         let rest = list.len() - at - 1;
         if rest < n {
-            return Number::Refused(Refusal::ListEndsInside);
+            return Err(Refusal::ListEndsInside);
         }
         at = at + 1 + n;
         count += 1;
     }
-    Number::Value(count)
+    Ok(count)
 }
 
 // Copies src over dst.
@@ -34,11 +35,7 @@ pub fn copy(src: &[u32], dst: &mut [u32])
     requires { length src.now ≡ length dst.old }
     ensures { dst.new ≡ src.now }
 {
-    let mut i = 0;
-    while i < src.len() {
-        dst[i] = src[i];
-        i += 1;
-    }
+    dst.copy_from_slice(src);
 }
 
 // Stores targets, each of at most MAX_SITES, in places of 16 bits.
@@ -47,46 +44,43 @@ pub fn store(src: &[u32], dst: &mut [u16])
     requires by_index { (q : ℕ) → q < length src.now → get_or src.now q 0 ≤ max_sites }
     ensures { dst.new ≡ src.now }
 {
-    let mut i = 0;
-    while i < src.len() {
+    for i in 0..src.len() {
         dst[i] = src[i] as u16;
-        i += 1;
     }
 }
 
 // The first fault of a generator, 5 to 7.
-pub fn fault(generator: usize, perm: &[u32], sites: usize) -> Verdict
+pub fn fault(generator: usize, perm: &[u32], sites: usize) -> Result<(), Refusal>
     requires { sites ≤ max_sites }
-    ensures { outcome_of_verdict result ≡ alone (perm_check sites generator perm.now) }
+    ensures { outcome_of result ≡ alone (perm_check sites generator perm.now) }
 {
     if perm.len() != sites {
-        return Verdict::Refused(Refusal::PermutationLength(generator, perm.len()));
+        return Err(Refusal::PermutationLength(generator, perm.len()));
     }
     permutation::inner::first_fault(generator, perm, sites)
 }
 
 // The targets of a list's generators, MAX_SITES places each, over zeros, up to the first fault, 5 to 7.
-pub fn fill_targets(list: &[u32], sites: usize, targets: &mut [u16]) -> Verdict
+pub fn fill_targets(list: &[u32], sites: usize, targets: &mut [u16]) -> Result<(), Refusal>
     requires sites_le_max_sites { sites ≤ max_sites }
     requires list_value { (ends_inside list.now ≡ false) × (length (perms_of list.now) ≤ max_generators) }
     requires targets_value { targets.old ≡ replicate target_places 0 }
-    ensures answer { outcome_of_verdict result ≡ alone (perms_check sites 0 (perms_of list.now)) }
+    ensures answer { outcome_of result ≡ alone (perms_check sites 0 (perms_of list.now)) }
     ensures targets { targets.new ≡ placed_all (passing sites 0 (perms_of list.now)) }
 {
     let mut at = 0;
     let mut g = 0;
+    // A while: each generator says where the next one begins.
     while at < list.len() {
         let n = list[at] as usize;
         let start = at + 1;
         let end = start + n;
-        if let Verdict::Refused(why) = fault(g, &list[start..end], sites) {
-            return Verdict::Refused(why);
-        }
+        fault(g, &list[start..end], sites)?;
         let place = MAX_SITES * g;
         let stop = place + sites;
         store(&list[start..end], &mut targets[place..stop]);
         at = end;
         g += 1;
     }
-    Verdict::Accepted
+    Ok(())
 }

@@ -7,6 +7,7 @@ use mathlib.Core.Logic.{inl, inr, ◌⊎◌}
 use mathlib.Core.List.{List, ◌∷◌, map}
 use native.Mathlib.Nat.{
   div-div-eq-div-mul,
+  dvd-mul_left,
   dvd-mul_right,
   dvd_of_mod-eq-zero,
   dvd_trans,
@@ -144,6 +145,10 @@ module _ {k n : ℕ} {targets orders : List ℕ} (t : Tables k n targets orders)
   -- a round of an axis is no more than a group may have
   pub place-times : (g : ℕ) → g < k → product (take g orders) * get_or orders g 0 ≤ max_order
   place-times g h = rw (← orders-next g h) (factor-small t (product (take (suc g) orders)) (suc g) (orders-part (suc g) h))
+
+  -- nor is an order
+  pub order-small : (g : ℕ) → g < k → get_or orders g 0 ≤ max_order
+  order-small g h = omega (arith, le_of_dvd (rw (← orders-next g h) (place-positive (suc g) h)) (dvd-mul_left (get_or orders g 0) (product (take g orders))), place-times g h)
 
   -- rotations each of which shifts along an axis are axes
   pub axes-by : {strides rests : List ℕ} → length strides ≡ max_generators → length rests ≡ max_generators → ((g : ℕ) → g < k → 0 < get_or rests g 0)

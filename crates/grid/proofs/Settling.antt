@@ -1,6 +1,8 @@
 -- Candidates whose words are compared one after the other: what one more says of the best so far and of those that give it, and that at the end these lead.
 -- What two that give the same word say of others: their difference fixes the word, and candidates that differ by such an index give the same.
 -- And the smallest index that reaches the least word, by the inverses of the candidates that lead.
+use Rattle.std.specs.declared.cmp.Ordering.{Ordering}
+use Rattle.std.specs.declared.cmp.Ordering.TheVariants.{Less, Equal, Greater}
 use Prim.Native.Nat.{ℕ, ◌+◌, ◌*◌, ◌/◌, ◌%◌, ◌<◌, ◌≤◌, min}
 use mathlib.Core.Path.{◌≡◌, refl, sym, ◌∙◌, ap, ap₂, subst}
 use mathlib.Core.Logic.{◌⊎◌, inl, inr, ◌↔◌}
@@ -12,8 +14,6 @@ use lib.Bits.{bit_or}
 use lib.Dec.{ltb, eqb}
 use lib.ListN.{length, get_or, set}
 use borrow.Author.Tests.{le-ltb, eqb-true, eq-eqb, ne_eqb}
-use Rattle.pauli_word.specs.declared.Ordering.{Ordering}
-use Rattle.pauli_word.specs.declared.Ordering.TheVariants.{Less, Same, Greater}
 use Rattle.pauli_word.specs.Word.{Word, same, less}
 use Rattle.pauli_word.specs.Calls.{order_of_words}
 use Rattle.pauli_word.proofs.WordOrder.{same_refl, same_eq, less_irrefl, less_trans, less-total}
@@ -167,7 +167,7 @@ module _ {gs : List Generator} {w u : Word} {S F : ℕ → Bool} {k : ℕ} (h : 
         go Less t a b =
             subst (λ (x : Word). Weighed gs w S (k + 1) x F') (sym (a ∙ e))
             (weighed-less (ap (λ (x : Word). less x u) (sym e) ∙ order_less v u t) b)
-        go Same t a b =
+        go Equal t a b =
             subst (λ (x : Word). Weighed gs w S (k + 1) x F') (sym a)
             (weighed-same (not-less t (λ l. let z : ◌≡◌ {A = ℕ} 0 1 = cc in omega arith))
             (sym e ∙ same_eq v u (order_same v u (ap length e ∙ long) t)) b)
@@ -231,7 +231,7 @@ module _ {n : ℕ} {gs : List Generator} (v : Valid n gs) {w : Word} (e : length
       go : (p : Ordering) → order_of_words c u ≡ p → u' ≡ led p c u → lead' ≡ led p k lead → shift' ≡ shifted p (add gs lead (inverse gs k)) shift
           → Knows gs w u' lead' shift'
       go Less q x y z = record { leads = ap (candidate gs w) y ∙ sym a ∙ sym x; fixed = moved shift' z }
-      go Same q x y z = record {
+      go Equal q x y z = record {
         leads = ap (candidate gs w) y ∙ known.leads ∙ sym x;
         fixed = ap (λ (p : ℕ). reach gs p w) z ∙ tie-fixes lead k (known.leads ∙ sym (same_eq c u (order_same c u long q)) ∙ a);
       }

@@ -8,6 +8,8 @@ use Rattle.pauli_word.specs.Limits.{max_sites}
 use Rattle.permutation.specs.Limits.{max_generators}
 use Rattle.packed.specs.Packed.{word_bits, plane_words, rotated}
 use Rattle.rotation.specs.Rotation.{Masks}
+use Rattle.permutation.specs.declared.Lent.{Lent}
+use Rattle.rotation.specs.declared.shape.Shapes.{Shapes as ShapesFound}
 
 -- the sites are blocks of as many as the group has indices, and each generator shifts along an axis of its own: it adds 1 to its digit of a site's
 -- number inside its block, taken round
@@ -41,3 +43,11 @@ pub record Steps (k order m : ℕ) (orders strides rests masks : List ℕ) : Typ
   pub kept : Masks k order m rests strides masks
   pub room : order ≤ word_bits * m
   pub few : m ≤ plane_words
+
+-- ---- of a lent group and the shapes found of it
+
+abbrev pub OnAxes : Lent → ShapesFound → Type 0
+OnAxes g s = Axes g.generators g.orders.now s.strides s.rests
+
+abbrev pub StepsBy : Lent → ℕ → ℕ → ShapesFound → List ℕ → Type 0
+StepsBy g order m s masks = Steps g.generators order m g.orders.now s.strides s.rests masks

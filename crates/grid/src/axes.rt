@@ -2,33 +2,33 @@
 ghost use Rattle.std.specs.Prelude.{◌≡◌, true, ◌+◌, ◌*◌, ◌≤◌, ◌<◌};
 ghost use Rattle.pauli_word.specs.Limits.{max_sites};
 ghost use Rattle.permutation.specs.Limits.{max_order};
-ghost use Rattle.elements.specs.HeldGroup.{Tables};
-ghost use Rattle.rotation.specs.Rotation.{Shapes};
-ghost use Rattle.grid.specs.Grid.{Axis, Axes};
+ghost use Rattle.elements.specs.HeldGroup.{HoldsGroup};
+ghost use Rattle.rotation.specs.Rotation.{Shaped};
+ghost use Rattle.grid.specs.Grid.{Axis, OnAxes};
+
+use permutation::Lent;
+use rotation::shape::Shapes;
 
 // Whether generators that rotate by their strides inside blocks shift along axes: each by the product of the orders before its own, inside blocks of that
 // times its own order. The identity has order 1, and shifts along an axis of one place.
-pub fn is_grid(
-    targets: &[u16],
-    orders: &[u32],
-    generators: usize,
-    sites: usize,
-    strides: &[usize],
-    rests: &[usize],
-) -> bool
-    requires tables { Tables generators sites targets.now orders.now }
-    requires shapes { Shapes generators sites targets.now strides.now rests.now }
-    ensures { result ≡ true → Axes generators orders.now strides.now rests.now }
+pub fn is_grid(group: &Lent<'_>, shapes: &Shapes) -> bool
+    requires tables { HoldsGroup group.now }
+    requires shapes { Shaped group.now shapes.now }
+    ensures { result ≡ true → OnAxes group.now shapes.now }
 {
+    let Lent {
+        orders,
+        generators,
+        ..
+    } = *group;
+    let Shapes { strides, rests } = *shapes;
     let mut place: usize = 1;
-    let mut g = 0;
-    while g < generators {
+    for g in 0..generators {
         let o = orders[g] as usize;
         if !is_axis(place, o, strides[g], rests[g]) {
             return false;
         }
         place = place * o;
-        g += 1;
     }
     true
 }

@@ -23,10 +23,8 @@ pub fn take_block(plane: &[u64], base: usize, order: usize, at: &mut [u64])
     ensures bits { (k : ℕ) → k < order → bit_of at.new k ≡ bit_of plane.now (base + k) }
     ensures clear { Clear order at.new }
 {
-    let mut i = 0;
-    while i < at.len() {
+    for i in 0..at.len() {
         at[i] = window(plane, base + WORD_BITS * i) & packed::shift::ones_word(order, i);
-        i += 1;
     }
 }
 
@@ -34,12 +32,10 @@ pub fn take_block(plane: &[u64], base: usize, order: usize, at: &mut [u64])
 pub fn no_bit(at: &[u64]) -> bool
     ensures { result ≡ true → (k : ℕ) → bit_of at.now k ≡ false }
 {
-    let mut i = 0;
-    while i < at.len() {
+    for i in 0..at.len() {
         if at[i] != 0 {
             return false;
         }
-        i += 1;
     }
     true
 }
@@ -49,12 +45,10 @@ pub fn every_bit(at: &[u64], order: usize) -> bool
     requires { order ≤ word_bits * length at.now }
     ensures { result ≡ true → (k : ℕ) → k < order → bit_of at.now k ≡ true }
 {
-    let mut i = 0;
-    while i < at.len() {
+    for i in 0..at.len() {
         if at[i] != packed::shift::ones_word(order, i) {
             return false;
         }
-        i += 1;
     }
     true
 }

@@ -31,10 +31,8 @@ pub fn some_with(at: &[u64], left: &[u64]) -> bool
     ensures { result ≡ false → (k : ℕ) → (bit_of left.now k && bit_of at.now k) ≡ false }
 {
     let mut met: u64 = 0;
-    let mut i = 0;
-    while i < left.len() {
+    for i in 0..left.len() {
         met = met | (left[i] & at[i]);
-        i += 1;
     }
     met != 0
 }
@@ -46,11 +44,9 @@ pub fn some_without(at: &[u64], left: &[u64]) -> bool
     ensures no { result ≡ false → (k : ℕ) → (bit_of left.now k && not (bit_of at.now k)) ≡ false }
 {
     let mut met: u64 = 0;
-    let mut i = 0;
-    while i < left.len() {
+    for i in 0..left.len() {
         let x = left[i];
         met = met | (x ^ (x & at[i]));
-        i += 1;
     }
     met != 0
 }
@@ -60,11 +56,9 @@ pub fn take_out(at: &[u64], left: &mut [u64])
     requires { length at.now ≡ length left.old }
     ensures { (k : ℕ) → bit_of left.new k ≡ (bit_of left.old k && not (bit_of at.now k)) }
 {
-    let mut i = 0;
-    while i < left.len() {
+    for i in 0..left.len() {
         let x = left[i];
         left[i] = x ^ (x & at[i]);
-        i += 1;
     }
 }
 
@@ -91,13 +85,11 @@ pub fn first_of(left: &[u64]) -> usize
     ensures inside { result < word_bits * length left.now }
     ensures first { (k : ℕ) → bit_of left.now k ≡ true → bit_of left.now result ≡ true }
 {
-    let mut i: usize = 0;
-    while i < left.len() {
+    for i in 0..left.len() {
         let x = left[i];
         if x != 0 {
             return WORD_BITS * i + (u64::trailing_zeros(x) as usize);
         }
-        i += 1;
     }
     0
 }
@@ -118,12 +110,10 @@ pub fn is_alone(left: &[u64], k: usize) -> bool
     requires { k < word_bits * length left.now }
     ensures { result ≡ true → (j : ℕ) → bit_of left.now j ≡ eqb j k }
 {
-    let mut i = 0;
-    while i < left.len() {
+    for i in 0..left.len() {
         if left[i] != alone_word(k, i) {
             return false;
         }
-        i += 1;
     }
     true
 }

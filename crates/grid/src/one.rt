@@ -1,15 +1,17 @@
 // Refinement where a set of candidates is one machine word: the rounds of a block on two words.
 ghost use Rattle.std.specs.Prelude.{◌≡◌, Bool, false, ◌&&◌, cond, not, ℕ, suc, ◌+◌, ◌-◌, ◌%◌, ◌≤◌, ◌<◌, ltb, length, get_or};
 ghost use Rattle.action.specs.Index.{order_of, add};
-ghost use Rattle.elements.specs.HeldGroup.{generators_in, Tables};
+ghost use Rattle.elements.specs.HeldGroup.{HoldsGroup, generators_held};
 ghost use Rattle.packed.specs.Packed.{word_bits, bit_at};
-ghost use Rattle.grid.specs.Grid.{Steps};
+ghost use Rattle.grid.specs.Grid.{StepsBy};
 ghost use Rattle.grid.specs.Candidates.{Left};
 ghost use Rattle.grid.specs.Stages.{AloneIn, Refined};
 
 use crate::candidates::Round;
 use crate::refine;
 use crate::refine::{PATIENCE, Stage};
+use permutation::Lent;
+use rotation::shape::Shapes;
 
 // The candidates that are left, and where refining stops.
 #[derive(Clone, Copy)]
@@ -80,71 +82,67 @@ pub fn next_digit(low: usize, o: usize) -> usize
 
 // What `step` does, to one word; `low` is the first digit of h.
 pub fn step_word(
-    targets: &[u16],
-    orders: &[u32],
-    generators: usize,
-    sites: usize,
-    strides: &[usize],
-    rests: &[usize],
+    group: &Lent<'_>,
+    shapes: &Shapes,
     masks: &[u64],
     order: usize,
     h: usize,
     low: usize,
     at: u64,
 ) -> u64
-    requires tables { Tables generators sites targets.now orders.now }
-    requires order_value { order ≡ order_of (generators_in generators sites targets.now orders.now) }
-    requires steps { Steps generators order 1 orders.now strides.now rests.now masks.now }
-    requires low_value { 0 < generators → low ≡ h % get_or orders.now 0 0 }
+    requires tables { HoldsGroup group.now }
+    requires order_value { order ≡ order_of (generators_held group.now) }
+    requires steps { StepsBy group.now order 1 shapes.now masks.now }
+    requires low_value { 0 < group.now.generators → low ≡ h % get_or group.now.orders.now 0 0 }
     requires by_index { (k : ℕ) → order ≤ k → bit_at at k ≡ false }
     ensures clear { (k : ℕ) → order ≤ k → bit_at result k ≡ false }
     ensures bits { (f : ℕ → Bool)
-        → ((k : ℕ) → k < order → bit_at at k ≡ f (add (generators_in generators sites targets.now orders.now) h k))
-        → (k : ℕ) → k < order → bit_at result k ≡ f (add (generators_in generators sites targets.now orders.now) (suc h) k) }
+        → ((k : ℕ) → k < order → bit_at at k ≡ f (add (generators_held group.now) h k))
+        → (k : ℕ) → k < order → bit_at result k ≡ f (add (generators_held group.now) (suc h) k) }
 {
+    let Lent {
+        orders,
+        generators,
+        ..
+    } = *group;
+    let Shapes { strides, rests } = *shapes;
     let mut x = at;
     let mut digits = h;
-    let mut g = 0;
-    while g < generators {
+    for g in 0..generators {
         x = turn(masks[g], x, rests[g], strides[g]);
         let o = orders[g] as usize;
         if digit_at(g, low, digits, o) + 1 != o {
             return x;
         }
         digits = digits / o;
-        g += 1;
     }
     x
 }
 
 // Refines by one block, place after place. `at` holds the candidates' bits at its first place.
 pub fn refine_word(
-    targets: &[u16],
-    orders: &[u32],
-    generators: usize,
-    sites: usize,
-    strides: &[usize],
-    rests: &[usize],
+    group: &Lent<'_>,
+    shapes: &Shapes,
     masks: &[u64],
     order: usize,
     at: u64,
     left: u64,
 ) -> Stopped
-    requires tables { Tables generators sites targets.now orders.now }
-    requires order_value { order ≡ order_of (generators_in generators sites targets.now orders.now) }
-    requires steps { Steps generators order 1 orders.now strides.now rests.now masks.now }
+    requires tables { HoldsGroup group.now }
+    requires order_value { order ≡ order_of (generators_held group.now) }
+    requires steps { StepsBy group.now order 1 shapes.now masks.now }
     requires by_index { (k : ℕ) → order ≤ k → bit_at at k ≡ false }
     ensures { (F : ℕ → ℕ → Bool) (t : ℕ) → Left order F t (bit_at left)
-        → ((h k : ℕ) → h < order → k < order → F k (t + h) ≡ bit_at at (add (generators_in generators sites targets.now orders.now) h k))
+        → ((h k : ℕ) → h < order → k < order → F k (t + h) ≡ bit_at at (add (generators_held group.now) h k))
         → Refined result.stage order F (t + order) (bit_at result.left) }
 {
+    let Lent { orders, .. } = *group;
     let first = orders[0] as usize;
     let mut here = at;
     let mut kept = left;
     let mut stale: usize = 0;
     let mut low: usize = 0;
-    let mut h = 0;
-    while h < order {
+    for h in 0..order {
         let next = strike_word(here, kept);
         let told = round_word(kept, next);
         kept = next;
@@ -155,11 +153,8 @@ pub fn refine_word(
         if PATIENCE < stale {
             return Stopped::new(kept, Stage::Tired);
         }
-        here = step_word(
-            targets, orders, generators, sites, strides, rests, masks, order, h, low, here,
-        );
+        here = step_word(group, shapes, masks, order, h, low, here);
         low = next_digit(low, first);
-        h += 1;
     }
     Stopped::new(kept, Stage::Through)
 }

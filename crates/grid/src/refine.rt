@@ -1,16 +1,18 @@
 // Refinement: block after block of the X plane and then of the Z plane, place after place, candidates are struck out.
 ghost use Rattle.std.specs.Prelude.{◌≡◌, Bool, ℕ, ◌+◌, ◌*◌, ◌%◌, ◌≤◌, ◌<◌, length};
 ghost use Rattle.action.specs.Index.{order_of, add};
-ghost use Rattle.elements.specs.HeldGroup.{generators_in, Tables};
+ghost use Rattle.elements.specs.HeldGroup.{HoldsGroup, generators_held};
 ghost use Rattle.packed.specs.Packed.{word_bits, plane_words, bit_of, Clear, letters_at};
-ghost use Rattle.rotation.specs.Rotation.{Shapes, Planes};
-ghost use Rattle.grid.specs.Grid.{Grid, further, Steps};
+ghost use Rattle.rotation.specs.Rotation.{Planes, Shaped};
+ghost use Rattle.grid.specs.Grid.{Grid, further, StepsBy};
 ghost use Rattle.grid.specs.Candidates.{Left};
 ghost use Rattle.grid.specs.Stages.{patience, is_tired, Refined, Staged};
 
 use crate::candidates::Round;
 use crate::{block, candidates, one, step};
 use packed::PLANE_WORDS;
+use permutation::Lent;
+use rotation::shape::Shapes;
 
 // How many rounds in a row may strike out no candidate before refining stops.
 pub const PATIENCE: usize = 16;
@@ -53,28 +55,23 @@ pub fn waited(round: Round, stale: usize) -> usize
 
 // Refines by one block, place after place, where a set is any number of machine words. `at` holds the candidates' bits at its first place.
 pub fn refine_words(
-    targets: &[u16],
-    orders: &[u32],
-    generators: usize,
-    sites: usize,
-    strides: &[usize],
-    rests: &[usize],
+    group: &Lent<'_>,
+    shapes: &Shapes,
     masks: &[u64],
     order: usize,
     at: &mut [u64],
     left: &mut [u64],
 ) -> Stage
-    requires tables { Tables generators sites targets.now orders.now }
-    requires order_value { order ≡ order_of (generators_in generators sites targets.now orders.now) }
-    requires steps { Steps generators order (length at.old) orders.now strides.now rests.now masks.now }
+    requires tables { HoldsGroup group.now }
+    requires order_value { order ≡ order_of (generators_held group.now) }
+    requires steps { StepsBy group.now order (length at.old) shapes.now masks.now }
     requires clear { Clear order at.old × (length left.old ≡ length at.old) }
     ensures { (F : ℕ → ℕ → Bool) (t : ℕ) → Left order F t (bit_of left.old)
-        → ((h k : ℕ) → h < order → k < order → F k (t + h) ≡ bit_of at.old (add (generators_in generators sites targets.now orders.now) h k))
+        → ((h k : ℕ) → h < order → k < order → F k (t + h) ≡ bit_of at.old (add (generators_held group.now) h k))
         → Refined result order F (t + order) (bit_of left.new) }
 {
     let mut stale: usize = 0;
-    let mut h = 0;
-    while h < order {
+    for h in 0..order {
         let told = candidates::strike_round(at, left);
         if let Round::Alone(k) = told {
             return Stage::Alone(k);
@@ -83,55 +80,40 @@ pub fn refine_words(
         if PATIENCE < stale {
             return Stage::Tired;
         }
-        step::step(
-            targets, orders, generators, sites, strides, rests, masks, order, h, at,
-        );
-        h += 1;
+        step::step(group, shapes, masks, order, h, at);
     }
     Stage::Through
 }
 
 // Refines by one block: where a set is one machine word, by plain numbers. `at` holds the candidates' bits at its first place.
 pub fn refine_block(
-    targets: &[u16],
-    orders: &[u32],
-    generators: usize,
-    sites: usize,
-    strides: &[usize],
-    rests: &[usize],
+    group: &Lent<'_>,
+    shapes: &Shapes,
     masks: &[u64],
     order: usize,
     at: &mut [u64],
     left: &mut [u64],
 ) -> Stage
-    requires tables { Tables generators sites targets.now orders.now }
-    requires order_value { order ≡ order_of (generators_in generators sites targets.now orders.now) }
-    requires steps { Steps generators order (length at.old) orders.now strides.now rests.now masks.now }
+    requires tables { HoldsGroup group.now }
+    requires order_value { order ≡ order_of (generators_held group.now) }
+    requires steps { StepsBy group.now order (length at.old) shapes.now masks.now }
     requires clear { Clear order at.old × (length left.old ≡ length at.old) }
     ensures { (F : ℕ → ℕ → Bool) (t : ℕ) → Left order F t (bit_of left.old)
-        → ((h k : ℕ) → h < order → k < order → F k (t + h) ≡ bit_of at.old (add (generators_in generators sites targets.now orders.now) h k))
+        → ((h k : ℕ) → h < order → k < order → F k (t + h) ≡ bit_of at.old (add (generators_held group.now) h k))
         → Refined result order F (t + order) (bit_of left.new) }
 {
     if at.len() == 1 {
-        let stopped = one::refine_word(
-            targets, orders, generators, sites, strides, rests, masks, order, at[0], left[0],
-        );
+        let stopped = one::refine_word(group, shapes, masks, order, at[0], left[0]);
         left[0] = stopped.left;
         return stopped.stage;
     }
-    refine_words(
-        targets, orders, generators, sites, strides, rests, masks, order, at, left,
-    )
+    refine_words(group, shapes, masks, order, at, left)
 }
 
 // Refines by the block of a plane that begins at a site. A block whose bits are all alike strikes out none.
 pub fn refine_at(
-    targets: &[u16],
-    orders: &[u32],
-    generators: usize,
-    sites: usize,
-    strides: &[usize],
-    rests: &[usize],
+    group: &Lent<'_>,
+    shapes: &Shapes,
     masks: &[u64],
     order: usize,
     plane: &[u64],
@@ -139,50 +121,44 @@ pub fn refine_at(
     at: &mut [u64],
     left: &mut [u64],
 ) -> Stage
-    requires tables { Tables generators sites targets.now orders.now }
-    requires order_value { order ≡ order_of (generators_in generators sites targets.now orders.now) }
-    requires steps { Steps generators order (length at.old) orders.now strides.now rests.now masks.now }
-    requires base_le_sites { (base ≤ sites) × (length left.old ≡ length at.old) }
+    requires tables { HoldsGroup group.now }
+    requires order_value { order ≡ order_of (generators_held group.now) }
+    requires steps { StepsBy group.now order (length at.old) shapes.now masks.now }
+    requires base_le_sites { (base ≤ group.now.sites) × (length left.old ≡ length at.old) }
     ensures { (F : ℕ → ℕ → Bool) (t : ℕ) → Left order F t (bit_of left.old)
-        → ((h k : ℕ) → h < order → k < order → F k (t + h) ≡ bit_of plane.now (base + add (generators_in generators sites targets.now orders.now) h k))
+        → ((h k : ℕ) → h < order → k < order → F k (t + h) ≡ bit_of plane.now (base + add (generators_held group.now) h k))
         → Refined result order F (t + order) (bit_of left.new) }
 {
     block::take_block(plane, base, order, at);
     if block::alike(at, order) {
         return Stage::Through;
     }
-    refine_block(
-        targets, orders, generators, sites, strides, rests, masks, order, at, left,
-    )
+    refine_block(group, shapes, masks, order, at, left)
 }
 
 // Refines by a plane, block after block.
 pub fn refine_plane(
-    targets: &[u16],
-    orders: &[u32],
-    generators: usize,
-    sites: usize,
-    strides: &[usize],
-    rests: &[usize],
+    group: &Lent<'_>,
+    shapes: &Shapes,
     masks: &[u64],
     order: usize,
     plane: &[u64],
     at: &mut [u64],
     left: &mut [u64],
 ) -> Stage
-    requires tables { Tables generators sites targets.now orders.now }
-    requires order_value { (order ≡ order_of (generators_in generators sites targets.now orders.now)) × Grid sites (generators_in generators sites targets.now orders.now) }
-    requires steps { Steps generators order (length at.old) orders.now strides.now rests.now masks.now }
+    requires tables { HoldsGroup group.now }
+    requires order_value { (order ≡ order_of (generators_held group.now)) × Grid group.now.sites (generators_held group.now) }
+    requires steps { StepsBy group.now order (length at.old) shapes.now masks.now }
     requires left_len { length left.old ≡ length at.old }
     ensures { (F : ℕ → ℕ → Bool) (t : ℕ) → Left order F t (bit_of left.old)
-        → ((q k : ℕ) → q < sites → k < order → F k (t + q) ≡ bit_of plane.now (further (generators_in generators sites targets.now orders.now) k q))
-        → Refined result order F (t + sites) (bit_of left.new) }
+        → ((q k : ℕ) → q < group.now.sites → k < order → F k (t + q) ≡ bit_of plane.now (further (generators_held group.now) k q))
+        → Refined result order F (t + group.now.sites) (bit_of left.new) }
 {
+    let Lent { sites, .. } = *group;
     let mut base = 0;
+    // A while: with `step_by` the last turn leaves without the fact that the blocks are at their end, and the proof did not close.
     while base < sites {
-        let stage = refine_at(
-            targets, orders, generators, sites, strides, rests, masks, order, plane, base, at, left,
-        );
+        let stage = refine_at(group, shapes, masks, order, plane, base, at, left);
         match stage {
             Stage::Alone(k) => {
                 return Stage::Alone(k);
@@ -200,12 +176,8 @@ pub fn refine_plane(
 
 // Refines by the X plane, and then by the Z plane those that it leaves; `at` is room for a block.
 pub fn refine_planes(
-    targets: &[u16],
-    orders: &[u32],
-    generators: usize,
-    sites: usize,
-    strides: &[usize],
-    rests: &[usize],
+    group: &Lent<'_>,
+    shapes: &Shapes,
     masks: &[u64],
     order: usize,
     x: &[u64],
@@ -213,60 +185,39 @@ pub fn refine_planes(
     at: &mut [u64],
     left: &mut [u64],
 ) -> Stage
-    requires tables { Tables generators sites targets.now orders.now }
-    requires order_value { (order ≡ order_of (generators_in generators sites targets.now orders.now)) × Grid sites (generators_in generators sites targets.now orders.now) }
-    requires steps { Steps generators order (length at.old) orders.now strides.now rests.now masks.now }
+    requires tables { HoldsGroup group.now }
+    requires order_value { (order ≡ order_of (generators_held group.now)) × Grid group.now.sites (generators_held group.now) }
+    requires steps { StepsBy group.now order (length at.old) shapes.now masks.now }
     requires left_len { length left.old ≡ length at.old }
     requires by_index { (F : ℕ → ℕ → Bool) → Left order F 0 (bit_of left.old) }
-    ensures { Staged result (generators_in generators sites targets.now orders.now) (letters_at sites x.now z.now) (bit_of left.new) }
+    ensures { Staged result (generators_held group.now) (letters_at group.now.sites x.now z.now) (bit_of left.new) }
 {
-    let stage = refine_plane(
-        targets, orders, generators, sites, strides, rests, masks, order, x, at, left,
-    );
+    let stage = refine_plane(group, shapes, masks, order, x, at, left);
     match stage {
         Stage::Alone(k) => Stage::Alone(k),
         Stage::Tired => Stage::Tired,
-        Stage::Through => refine_plane(
-            targets, orders, generators, sites, strides, rests, masks, order, z, at, left,
-        ),
+        Stage::Through => refine_plane(group, shapes, masks, order, z, at, left),
     }
 }
 
 // The candidates that are left of all where refining stops.
 pub fn refine(
-    targets: &[u16],
-    orders: &[u32],
-    generators: usize,
-    sites: usize,
-    strides: &[usize],
-    rests: &[usize],
+    group: &Lent<'_>,
+    shapes: &Shapes,
     masks: &[u64],
     order: usize,
     x: &[u64],
     z: &[u64],
     left: &mut [u64],
 ) -> Stage
-    requires tables { Tables generators sites targets.now orders.now }
-    requires order_value { order ≡ order_of (generators_in generators sites targets.now orders.now) }
-    requires shapes { Shapes generators sites targets.now strides.now rests.now }
-    requires steps { Steps generators order (length left.old) orders.now strides.now rests.now masks.now }
-    ensures { Staged result (generators_in generators sites targets.now orders.now) (letters_at sites x.now z.now) (bit_of left.new) }
+    requires tables { HoldsGroup group.now }
+    requires order_value { order ≡ order_of (generators_held group.now) }
+    requires shapes { Shaped group.now shapes.now }
+    requires steps { StepsBy group.now order (length left.old) shapes.now masks.now }
+    ensures { Staged result (generators_held group.now) (letters_at group.now.sites x.now z.now) (bit_of left.new) }
 {
     packed::shift::fill_run(0, order, left);
     let m = left.len();
     let mut at = [0u64; PLANE_WORDS];
-    refine_planes(
-        targets,
-        orders,
-        generators,
-        sites,
-        strides,
-        rests,
-        masks,
-        order,
-        x,
-        z,
-        &mut at[0..m],
-        left,
-    )
+    refine_planes(group, shapes, masks, order, x, z, &mut at[0..m], left)
 }

@@ -1,37 +1,41 @@
 // The bits of all candidates at one place of a block, and at the next.
 ghost use Rattle.std.specs.Prelude.{◌≡◌, Bool, ℕ, suc, ◌<◌, length};
 ghost use Rattle.action.specs.Index.{order_of, add};
-ghost use Rattle.elements.specs.HeldGroup.{generators_in, Tables};
+ghost use Rattle.elements.specs.HeldGroup.{HoldsGroup, generators_held};
 ghost use Rattle.packed.specs.Packed.{bit_of, Clear};
-ghost use Rattle.grid.specs.Grid.{Steps};
+ghost use Rattle.grid.specs.Grid.{StepsBy};
+
+use permutation::Lent;
+use rotation::shape::Shapes;
 
 // From the candidates' bits at place h of a block to those at the next: each has the bit of the candidate that is one further on along the first axis, and
 // along each next one while the digits of h below roll over.
 pub fn step(
-    targets: &[u16],
-    orders: &[u32],
-    generators: usize,
-    sites: usize,
-    strides: &[usize],
-    rests: &[usize],
+    group: &Lent<'_>,
+    shapes: &Shapes,
     masks: &[u64],
     order: usize,
     h: usize,
     at: &mut [u64],
 )
-    requires tables { Tables generators sites targets.now orders.now }
-    requires order_value { order ≡ order_of (generators_in generators sites targets.now orders.now) }
-    requires steps { Steps generators order (length at.old) orders.now strides.now rests.now masks.now }
+    requires tables { HoldsGroup group.now }
+    requires order_value { order ≡ order_of (generators_held group.now) }
+    requires steps { StepsBy group.now order (length at.old) shapes.now masks.now }
     requires clear_2 { Clear order at.old }
     ensures clear { Clear order at.new }
     ensures bits { (f : ℕ → Bool)
-        → ((k : ℕ) → k < order → bit_of at.old k ≡ f (add (generators_in generators sites targets.now orders.now) h k))
-        → (k : ℕ) → k < order → bit_of at.new k ≡ f (add (generators_in generators sites targets.now orders.now) (suc h) k) }
+        → ((k : ℕ) → k < order → bit_of at.old k ≡ f (add (generators_held group.now) h k))
+        → (k : ℕ) → k < order → bit_of at.new k ≡ f (add (generators_held group.now) (suc h) k) }
 {
+    let Lent {
+        orders,
+        generators,
+        ..
+    } = *group;
+    let Shapes { strides, rests } = *shapes;
     let m = at.len();
     let mut digits = h;
-    let mut g = 0;
-    while g < generators {
+    for g in 0..generators {
         let start = m * g;
         let end = start + m;
         let rest = rests[g];
@@ -41,6 +45,5 @@ pub fn step(
             return;
         }
         digits = digits / o;
-        g += 1;
     }
 }

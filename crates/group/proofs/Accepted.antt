@@ -14,9 +14,10 @@ use Rattle.pauli_word.specs.Limits.{max_sites}
 use Rattle.pauli_word.specs.Calls.{site_count}
 use Rattle.permutation.specs.Limits.{max_generators, target_places}
 use Rattle.generators.proofs.Groups.{hold-valid}
-use Rattle.elements.specs.HeldGroup.{generators_in, Tables}
+use Rattle.permutation.specs.declared.Lent.{Lent}
+use Rattle.elements.specs.HeldGroup.{generators_in, Tables, HoldsGroup}
 use Rattle.group.specs.declared.Group.{Group}
-use Rattle.group.specs.Value.{is_group, notAGroup, AcceptedGroup}
+use Rattle.group.specs.Value.{group_lent, is_group, notAGroup, AcceptedGroup}
 use Rattle.group.specs.Calls.{value_checks}
 
 -- ---- what the checks of a value come to: 1, 14
@@ -52,3 +53,12 @@ unfolding is_group generators_in
 accepted_tables g ok =
     let (valid, small, few) = hold-valid g.generators g.sites g.targets g.orders ok.is_one ok.orders in
     record { places = ok.targets; declared_orders = ok.orders; few = few; sites = ok.few; valid = valid; small = small }
+
+-- ---- a group whose tables are lent, that passes: their lengths are those of its types
+
+module _ (g : Lent) (pass : verdict (value_checks (group_lent g)) ≡ answer tt) where
+  pub lent-accepted : AcceptedGroup (group_lent g)
+  lent-accepted = value-accepted (group_lent g) g.places g.declared_orders pass
+
+  pub lent-tables : HoldsGroup g
+  lent-tables = accepted_tables (group_lent g) lent-accepted

@@ -1,30 +1,31 @@
--- The group of a list of generators: what its checks come to, rule by rule, and the tables that stand beside the answer.
+-- The group of a list of generators: what its checks come to, rule by rule, and the tables of what it answers with.
 -- What carries it: the tables of generators that break no rule have those generators for their rows.
 use Prim.Native.Nat.{ℕ, ◌-◌, ◌≤◌, ◌<◌}
 use mathlib.Core.Path.{◌≡◌, refl, sym, ap, ap₂, ◌∙◌}
 use mathlib.Core.Bool.{true, false}
 use mathlib.Core.List.{List, [], ◌∷◌, map}
 use native.Mathlib.Nat.{suc_inj, suc-ne-zero}
+use native.Mathlib.Omega.{arith}
 use lib.ListN.{length, take, length-map}
 use lib.Seq.{take_at}
 use borrow.Author.Tests.{lt-ltb, le-ltb, eq-eqb, ne_eqb}
 use Rattle.pauli_word.specs.Limits.{max_sites}
-use Rattle.outcome.specs.Outcome.{answer, Check, verdict, on_answer, or_else, refusal_of, alone, done, itself, outcome_of_verdict}
+use Rattle.outcome.specs.Outcome.{answer, Check, verdict, refusal_of, alone}
 use Rattle.pauli_word.specs.Calls.{site_count}
 use Rattle.outcome.proofs.Outcomes.{call-answers, refused-broken, first-refuses, one-refused, one-answered, call-refused}
 use Rattle.permutation.specs.Limits.{max_generators}
-use Rattle.permutation.specs.Generators.{ends_inside, perms_of, list_end, perms_check, group_checks, generator_checks, declared, rows_of}
+use Rattle.permutation.specs.Generators.{ends_inside, perms_of, list_end, perms_check, group_checks, generator_checks, declared, row_at, rows_of}
 use Rattle.permutation.proofs.Rules.{perms_fine_lem}
 use Rattle.outcome.specs.declared.Refusal.{Refusal}
 use Rattle.generators.specs.Tables.{filled, placed_all}
 use Rattle.generators.specs.Parts.{scan_outcome}
 use Rattle.generators.proofs.Zeros.{blank}
 use Rattle.generators.proofs.Groups.{rows-placed}
+use Rattle.generators.proofs.Rows.{rows-permute}
+use Rattle.action.specs.Permutation.{Permutes}
 use Rattle.group.specs.declared.Group.{Group}
 use Rattle.outcome.specs.declared.Refusal.TheVariants as Refusal
-use Rattle.outcome.specs.declared.Verdict.TheVariants as Verdict
-use Rattle.group.specs.declared.Made.{Made}
-use Rattle.group.specs.Value.{group_of, no_group, try_from_outcome}
+use Rattle.group.specs.Value.{group_of, try_from_outcome}
 use Rattle.group.proofs.LatticeCalls.{same_group}
 
 -- ---- the value of generators
@@ -70,15 +71,11 @@ module _ (n : ℕ) (list orders : List ℕ) where
   abbrev pub try_checks : List Check
   try_checks = site_count n ∷ list_end list ∷ generator_checks n (perms_of list) orders
 
-  pub refused-made :
-      (why : Refusal) → verdict try_checks ≡ refusal_of why → (r : Made) → r.answer ≡ Verdict.Refused why → r.group ≡ no_group
-      → (outcome_of_verdict r.answer ≡ on_answer done (try_from_outcome n list orders)) × (r.group ≡ or_else itself no_group (try_from_outcome n list orders))
+  pub refused-made : (why : Refusal) → verdict try_checks ≡ refusal_of why → refusal_of why ≡ try_from_outcome n list orders
   unfolding try_from_outcome
-  refused-made why e r told none =
-      let o = call-refused try_checks (answer (group_of n (declared (perms_of list) orders))) why e in
-      (ap outcome_of_verdict told ∙ sym (ap (on_answer done) o), none ∙ sym (ap (or_else itself no_group) o))
+  refused-made why e = sym (call-refused try_checks (answer (group_of n (declared (perms_of list) orders))) why e)
 
-  pub answered-made :
+  answered-made :
       length (perms_of list) ≡ length orders → verdict try_checks ≡ answer tt
       → try_from_outcome n list orders ≡ answer (tables_of n (perms_of list) orders)
   unfolding try_from_outcome
@@ -121,16 +118,39 @@ module _ (n : ℕ) (list orders : List ℕ) where
               let check = perms_check n 0 (perms_of list) in
               perms-decide ∙ first-refuses check (group_checks n (perms_of list) orders) (refused-broken check why e) ∙ sym e
 
-          pub group-decides : (perms_check n 0 (perms_of list)).broken ≡ false → verdict try_checks ≡ verdict (group_checks n (perms_of list) orders)
+          group-decides : (perms_check n 0 (perms_of list)).broken ≡ false → verdict try_checks ≡ verdict (group_checks n (perms_of list) orders)
           group-decides e = perms-decide ∙ rw e
 
 -- ---- the tables that are filled on the way
 
-pub rows-filled :
+rows-filled :
     (n k : ℕ) (perms : List (List ℕ)) (targets : List ℕ) → n ≤ max_sites → (perms_check n 0 perms).broken ≡ false → k ≡ length perms
     → targets ≡ placed_all perms → rows_of k n targets ≡ perms
 rows-filled n k perms targets few fine count placed =
     ap₂ (λ (j : ℕ) (l : List ℕ). rows_of j n l) count placed ∙ rows-placed n perms few (λ p m. (perms_fine_lem n 0 perms fine p m).long)
 
-pub orders_filled : (k : ℕ) (orders : List ℕ) → k ≡ length orders → take k (filled max_generators orders) ≡ orders
+orders_filled : (k : ℕ) (orders : List ℕ) → k ≡ length orders → take k (filled max_generators orders) ≡ orders
 orders_filled k orders e = take_at orders (blank (max_generators - length orders)) k (sym e)
+
+-- the list's generators stand in the table, and the declared orders in theirs, with zeros after them
+module _ (n : ℕ) (list orders : List ℕ) (count : ℕ)
+    (counts : (n ≤ max_sites) × (ends_inside list ≡ false) × (count ≡ length (perms_of list)) × (count ≤ max_generators) × (count ≡ length orders))
+    (fine : (perms_check n 0 (perms_of list)).broken ≡ false) (targets held : List ℕ)
+    (placed : targets ≡ placed_all (perms_of list)) (declares : held ≡ filled max_generators orders) where
+  rows-are : rows_of count n targets ≡ perms_of list
+  rows-are = rows-filled n count (perms_of list) targets counts.0 fine counts.2 placed
+
+  pub made-permute : (g : ℕ) → g < count → Permutes n (row_at n targets g)
+  made-permute = rows-permute count n targets (ap (λ (l : List (List ℕ)). (perms_check n 0 l).broken) rows-are ∙ fine)
+
+  -- what the look through the tables finds is what the checks come to
+  pub made-told : verdict (group_checks n (rows_of count n targets) (take count held)) ≡ verdict (try_checks n list orders)
+  made-told =
+      ap₂ (λ (perms : List (List ℕ)) (os : List ℕ). verdict (group_checks n perms os)) rows-are
+      (ap (take count) declares ∙ orders_filled count orders counts.4)
+      ∙ sym (group-decides n list orders counts.0 counts.1 (omega (arith, counts.2, counts.3)) (sym counts.2 ∙ counts.4) fine)
+
+  pub made-answers :
+      verdict (try_checks n list orders) ≡ answer tt
+      → answer (record { sites = n; generators = count; orders = held; targets = targets }) ≡ try_from_outcome n list orders
+  made-answers e = ap answer (same_group refl counts.2 declares placed) ∙ sym (answered-made n list orders (sym counts.2 ∙ counts.4) e)

@@ -7,6 +7,7 @@ use Rattle.pauli_word.specs.Calls.{site_count}
 use Rattle.action.specs.Lists.{Member}
 use Rattle.action.specs.Permutation.{Generator}
 use Rattle.permutation.specs.Limits.{max_generators, max_declared, target_places}
+use Rattle.permutation.specs.declared.Lent.{Lent}
 use Rattle.permutation.specs.Generators.{perms_of, list_end, generator_checks, declared, written}
 use Rattle.generators.specs.Tables.{filled, placed_all, hold_group}
 use Rattle.elements.specs.HeldGroup.{generators_in}
@@ -15,6 +16,10 @@ use Rattle.group.specs.declared.Group.{Group}
 -- a group value by its parts
 abbrev pub group_in : ℕ → ℕ → List ℕ → List ℕ → Group
 group_in sites generators orders targets = record { sites = sites; generators = generators; orders = orders; targets = targets }
+
+-- the value of a group whose tables are lent
+abbrev pub group_lent : Lent → Group
+group_lent g = group_in g.sites g.generators g.orders.now g.targets.now
 
 -- ---- the value of generators: unused places are 0
 
@@ -27,7 +32,7 @@ group_of n gs = record {
   targets = placed_all (map (λ g. g.perm) gs);
 }
 
--- what stands beside a refusal: a value that says one generator more than there may be, which no call takes for a group
+-- what stands in the place of a refused group: a value that says one generator more than there may be, which no call takes for a group
 unfoldable pub no_group : Group
 no_group = record { sites = 0; generators = suc max_generators; orders = replicate max_generators 0; targets = replicate target_places 0 }
 

@@ -1,4 +1,6 @@
 -- Codes compared site by site: one bit of each decides where they differ, and the rest where they do not. All X bits go before the Z bits.
+use Rattle.std.specs.declared.cmp.Ordering.{Ordering}
+use Rattle.std.specs.declared.cmp.Ordering.TheVariants.{Less, Equal, Greater}
 use Prim.Native.Nat.{ℕ, suc, ◌+◌, ◌%◌, ◌≤◌, ◌<◌}
 use mathlib.Core.Path.{◌≡◌, refl, sym, ap, ap₂, ◌∙◌}
 use mathlib.Core.Logic.{◌⊎◌, inl, inr}
@@ -9,8 +11,6 @@ use native.Mathlib.Omega.{arith}
 use lib.Dec.{eqb}
 use lib.ListN.{length, get_or, drop, length-map, drop_of_length-le}
 use lib.Seq.{drop-cons}
-use Rattle.pauli_word.specs.declared.Ordering.{Ordering}
-use Rattle.pauli_word.specs.declared.Ordering.TheVariants.{Less, Same, Greater}
 use Rattle.pauli_word.specs.Word.{Word, x_bit, z_bit, bits, less_bits, less}
 use Rattle.pauli_word.specs.Bytes.{odd}
 use Rattle.pauli_word.specs.Calls.{order_of_bits, order_of_words}
@@ -41,7 +41,7 @@ order_behind false xs ys = refl
 order_behind true xs ys = refl
 
 -- where one list ends, nothing is left to differ
-nil_order : (ys : List Bool) → order_of_bits [] ys ≡ Same
+nil_order : (ys : List Bool) → order_of_bits [] ys ≡ Equal
 unfolding order_of_bits less_bits
 nil_order [] = refl
 nil_order (y ∷ ys) = refl
@@ -83,7 +83,7 @@ module _ (d : ℕ → ℕ) (a b : List ℕ) (q : ℕ) where
         ∙ ap (λ (j : ℕ). order_of_bits (map (λ c. odd (d c)) (drop j a)) (map (λ c. odd (d c)) (drop j b))) (sym (add-one q))
 
   -- past the last site nothing differs
-  pub sites-end : length a ≤ q → order_of_bits (map (λ c. odd (d c)) (drop q a)) (map (λ c. odd (d c)) (drop q b)) ≡ Same
+  pub sites-end : length a ≤ q → order_of_bits (map (λ c. odd (d c)) (drop q a)) (map (λ c. odd (d c)) (drop q b)) ≡ Equal
   sites-end h =
       ap (λ (l : List ℕ). order_of_bits (map (λ c. odd (d c)) l) (map (λ c. odd (d c)) (drop q b))) (drop_of_length-le a h)
       ∙ nil_order (map (λ c. odd (d c)) (drop q b))

@@ -1,12 +1,12 @@
 -- The walk on codes, entry by entry: the codes at hand are those of the entry of index i, and what it does to the least word so far, to its index
 -- and to how many indices reach it goes by how it stands to it.
+use Rattle.std.specs.declared.cmp.Ordering.{Ordering}
 use Prim.Native.Nat.{ℕ, ◌+◌, ◌≤◌, ◌<◌}
 use mathlib.Core.Path.{◌≡◌, refl, sym, ap, ◌∙◌}
 use mathlib.Core.List.{List}
 use native.Mathlib.Numerals.{add-one}
 use native.Mathlib.Omega.{arith}
 use lib.ListN.{length}
-use Rattle.pauli_word.specs.declared.Ordering.{Ordering}
 use Rattle.pauli_word.specs.Word.{Word}
 use Rattle.pauli_word.specs.Calls.{order_of_words}
 use Rattle.action.specs.Lists.{from, below}

@@ -5,15 +5,14 @@ ghost use Rattle.pauli_word.specs.Bytes.{odd};
 ghost use Rattle.pauli_word.specs.Calls.{order_of_bits, order_of_words};
 ghost use Rattle.elements.specs.Letters.{codes};
 
-use pauli_word::Ordering;
+use std::cmp::Ordering;
 
 // How the X bits of codes a stand to those of codes b.
 pub fn compare_x(a: &[u8], b: &[u8]) -> Ordering
     requires { length a.now ≡ length b.now }
     ensures { result ≡ order_of_bits (map odd a.now) (map odd b.now) }
 {
-    let mut q = 0;
-    while q < a.len() {
+    for q in 0..a.len() {
         let x = a[q] % 2;
         let y = b[q] % 2;
         if x < y {
@@ -22,9 +21,8 @@ pub fn compare_x(a: &[u8], b: &[u8]) -> Ordering
         if y < x {
             return Ordering::Greater;
         }
-        q += 1;
     }
-    Ordering::Same
+    Ordering::Equal
 }
 
 // How the Z bits of codes a stand to those of codes b.
@@ -32,8 +30,7 @@ pub fn compare_z(a: &[u8], b: &[u8]) -> Ordering
     requires { length a.now ≡ length b.now }
     ensures { result ≡ order_of_bits (map (λ c. odd (c / 2)) a.now) (map (λ c. odd (c / 2)) b.now) }
 {
-    let mut q = 0;
-    while q < a.len() {
+    for q in 0..a.len() {
         let x = a[q] / 2 % 2;
         let y = b[q] / 2 % 2;
         if x < y {
@@ -42,9 +39,8 @@ pub fn compare_z(a: &[u8], b: &[u8]) -> Ordering
         if y < x {
             return Ordering::Greater;
         }
-        q += 1;
     }
-    Ordering::Same
+    Ordering::Equal
 }
 
 // How the word with codes a stands to the word with codes b, of as many sites.
@@ -54,7 +50,7 @@ pub fn compare(a: &[u8], b: &[u8]) -> Ordering
 {
     match compare_x(a, b) {
         Ordering::Less => Ordering::Less,
-        Ordering::Same => compare_z(a, b),
+        Ordering::Equal => compare_z(a, b),
         Ordering::Greater => Ordering::Greater,
     }
 }

@@ -6,13 +6,15 @@ ghost use Rattle.pauli_word.specs.Calls.{order_of_words};
 ghost use Rattle.action.specs.Index.{order_of, digits};
 ghost use Rattle.action.specs.Orbit.{stepped, least, forward, fixing};
 ghost use Rattle.permutation.specs.Limits.{max_order};
-ghost use Rattle.elements.specs.HeldGroup.{generators_in, Tables};
+ghost use Rattle.elements.specs.HeldGroup.{HoldsGroup, generators_held};
 ghost use Rattle.elements.specs.Letters.{codes};
 ghost use Rattle.rotation.specs.Rotation.{led, tied};
 
 use crate::order;
 use elements::letters;
-use pauli_word::{MAX_SITES, Ordering, WORD_BYTES};
+use pauli_word::{MAX_SITES, WORD_BYTES};
+use permutation::Lent;
+use std::cmp::Ordering;
 
 // The least word of an orbit, the smallest index that reaches it, and how many indices do.
 #[derive(Clone, Copy)]
@@ -30,23 +32,20 @@ pub struct Lead {
 }
 
 // The walk's step from the entry of an index to the next, on its codes; spare is room for as many.
-pub fn advance(
-    targets: &[u16],
-    orders: &[u32],
-    generators: usize,
-    sites: usize,
-    index: usize,
-    here: &mut [u8],
-    spare: &mut [u8],
-)
-    requires tables { Tables generators sites targets.now orders.now }
-    requires here_len { length here.old ≡ sites }
-    requires spare_len { length spare.old ≡ sites }
-    ensures { (w : Word) → here.old ≡ codes w → here.new ≡ codes (stepped (generators_in generators sites targets.now orders.now) (digits (generators_in generators sites targets.now orders.now) index) w) }
+pub fn advance(group: &Lent<'_>, index: usize, here: &mut [u8], spare: &mut [u8])
+    requires tables { HoldsGroup group.now }
+    requires here_len { length here.old ≡ group.now.sites }
+    requires spare_len { length spare.old ≡ group.now.sites }
+    ensures { (w : Word) → here.old ≡ codes w → here.new ≡ codes (stepped (generators_held group.now) (digits (generators_held group.now) index) w) }
 {
+    let Lent {
+        targets,
+        orders,
+        generators,
+        sites,
+    } = *group;
     let mut rest = index;
-    let mut g = 0;
-    while g < generators {
+    for g in 0..generators {
         let start = MAX_SITES * g;
         let end = start + sites;
         letters::move_letters(&targets[start..end], here, spare);
@@ -56,7 +55,6 @@ pub fn advance(
             return;
         }
         rest = rest / o;
-        g += 1;
     }
 }
 
@@ -73,7 +71,7 @@ pub fn take_codes(here: &[u8], i: usize, best: &mut [u8], index: usize, ties: us
             pauli_word::inner::copy(here, best);
             Lead { index: i, ties: 1 }
         }
-        Ordering::Same => Lead {
+        Ordering::Equal => Lead {
             index,
             ties: ties + 1,
         },
@@ -83,37 +81,33 @@ pub fn take_codes(here: &[u8], i: usize, best: &mut [u8], index: usize, ties: us
 
 // As `least_by_letters`, in room for the codes of as many sites: of the entry at hand, of the best so far, and to spare.
 pub fn least_in_room(
-    targets: &[u16],
-    orders: &[u32],
-    generators: usize,
-    sites: usize,
+    group: &Lent<'_>,
     order: usize,
     word: &[u8],
     here: &mut [u8],
     best: &mut [u8],
     spare: &mut [u8],
 ) -> LeastLetters
-    requires tables { Tables generators sites targets.now orders.now }
-    requires accepted_word { AcceptedWord sites word.now }
-    requires order_value { order ≡ order_of (generators_in generators sites targets.now orders.now) }
-    requires here_len { length here.old ≡ sites }
-    requires best_len { length best.old ≡ sites }
-    requires spare_len { length spare.old ≡ sites }
-    ensures word { result.word ≡ bytes_of (least (generators_in generators sites targets.now orders.now) (letters_in sites word.now)) }
-    ensures index { result.index ≡ forward (generators_in generators sites targets.now orders.now) (letters_in sites word.now) }
-    ensures ties { result.ties ≡ length (fixing (generators_in generators sites targets.now orders.now) (letters_in sites word.now)) }
+    requires tables { HoldsGroup group.now }
+    requires accepted_word { AcceptedWord group.now.sites word.now }
+    requires order_value { order ≡ order_of (generators_held group.now) }
+    requires here_len { length here.old ≡ group.now.sites }
+    requires best_len { length best.old ≡ group.now.sites }
+    requires spare_len { length spare.old ≡ group.now.sites }
+    ensures word { result.word ≡ bytes_of (least (generators_held group.now) (letters_in group.now.sites word.now)) }
+    ensures index { result.index ≡ forward (generators_held group.now) (letters_in group.now.sites word.now) }
+    ensures ties { result.ties ≡ length (fixing (generators_held group.now) (letters_in group.now.sites word.now)) }
 {
+    let Lent { sites, .. } = *group;
     letters::unpack(word, sites, here);
     pauli_word::inner::copy(here, best);
     let mut index = 0;
     let mut ties = 0;
-    let mut i = 0;
-    while i < order {
+    for i in 0..order {
         let lead = take_codes(here, i, best, index, ties);
         index = lead.index;
         ties = lead.ties;
-        advance(targets, orders, generators, sites, i, here, spare);
-        i += 1;
+        advance(group, i, here, spare);
     }
     LeastLetters {
         word: letters::pack(best),
@@ -123,29 +117,20 @@ pub fn least_in_room(
 }
 
 // The least word of the orbit, by walking it whole, the smallest index that reaches it, and how many indices do: as many as fix the word.
-pub fn least_by_letters(
-    targets: &[u16],
-    orders: &[u32],
-    generators: usize,
-    sites: usize,
-    order: usize,
-    word: &[u8],
-) -> LeastLetters
-    requires tables { Tables generators sites targets.now orders.now }
-    requires accepted_word { AcceptedWord sites word.now }
-    requires order_value { order ≡ order_of (generators_in generators sites targets.now orders.now) }
-    ensures word { result.word ≡ bytes_of (least (generators_in generators sites targets.now orders.now) (letters_in sites word.now)) }
-    ensures index { result.index ≡ forward (generators_in generators sites targets.now orders.now) (letters_in sites word.now) }
-    ensures ties { result.ties ≡ length (fixing (generators_in generators sites targets.now orders.now) (letters_in sites word.now)) }
+pub fn least_by_letters(group: &Lent<'_>, order: usize, word: &[u8]) -> LeastLetters
+    requires tables { HoldsGroup group.now }
+    requires accepted_word { AcceptedWord group.now.sites word.now }
+    requires order_value { order ≡ order_of (generators_held group.now) }
+    ensures word { result.word ≡ bytes_of (least (generators_held group.now) (letters_in group.now.sites word.now)) }
+    ensures index { result.index ≡ forward (generators_held group.now) (letters_in group.now.sites word.now) }
+    ensures ties { result.ties ≡ length (fixing (generators_held group.now) (letters_in group.now.sites word.now)) }
 {
+    let Lent { sites, .. } = *group;
     let mut here = [0u8; MAX_SITES];
     let mut best = [0u8; MAX_SITES];
     let mut spare = [0u8; MAX_SITES];
     least_in_room(
-        targets,
-        orders,
-        generators,
-        sites,
+        group,
         order,
         word,
         &mut here[0..sites],

@@ -11,7 +11,7 @@ use Rattle.orbit.specs.Calls.{word_call_checks}
 use Rattle.group.specs.Calls.{value_checks, list_length}
 use Rattle.momentum.specs.declared.Sector.{Sector}
 use Rattle.momentum.specs.declared.Sector.TheVariants as Sector
-use Rattle.pauli_word.specs.Bytes.{word_in}
+use Rattle.pauli_word.specs.Bytes.{word_in, bytes_of}
 use Rattle.decisions.specs.Decisions.{numerators, Decision, kept, dropped, Row, decision}
 
 -- 18: mode count is not the generator count
@@ -40,11 +40,10 @@ sector_outcome g n bytes ks k =
     unless (word_call_checks g n bytes ++ (mode_count g ks ∷ list_length k g.generators ∷ []))
     (answer (decision (generators_of g) ks (word_in n bytes)))
 
--- `Kept` carries the orbit size, `Dropped` the index that drops the word
-abbrev pub outcome_of_sector : Sector → Outcome (Decision ℕ)
-outcome_of_sector (Sector.Kept size) = answer (kept size)
-outcome_of_sector (Sector.Dropped index) = answer (dropped index)
-outcome_of_sector (Sector.Refused why) = refusal_of why
+-- a decision as the call hands it back: the bytes of the least word and the orbit size, or the index that drops the word
+abbrev pub sector_of : Decision Row → Sector
+sector_of (kept r) = Sector.Kept (record { word = bytes_of r.word; size = r.size })
+sector_of (dropped i) = Sector.Dropped i
 
 abbrev pub size_of : Decision Row → Decision ℕ
 size_of (kept r) = kept r.size

@@ -1,6 +1,7 @@
 -- What the calls with a check of their own come to where their first checks pass, what a word of the old form is answered, and a step for a walk that passes
 -- its checks.
 -- What carries it: the checks before a call's own are passed, so that its own decide.
+use Rattle.std.specs.Prelude.{Result, Err}
 use Prim.Native.Nat.{ℕ, ◌*◌, ◌≤◌, ◌<◌}
 use mathlib.Core.Path.{◌≡◌, ap, ap₂, ◌∙◌}
 use mathlib.Core.Bool.{Bool, false, cond}
@@ -10,9 +11,7 @@ use borrow.Author.Tests.{lt-ltb, le-ltb, eq-eqb, ne_eqb}
 use Rattle.pauli_word.specs.Limits.{word_length}
 use Rattle.outcome.specs.declared.Refusal.{Refusal}
 use Rattle.outcome.specs.declared.Refusal.TheVariants as Refusal
-use Rattle.outcome.specs.declared.Verdict.{Verdict}
-use Rattle.outcome.specs.declared.Verdict.TheVariants as Verdict
-use Rattle.outcome.specs.Outcome.{answer, refusal_of, verdict, outcome_of_verdict, unless, Check}
+use Rattle.outcome.specs.Outcome.{answer, refusal_of, verdict, outcome_of, unless, Check}
 use Rattle.outcome.proofs.Outcomes.{call-answers, verdict-append, told-refused-first}
 use Rattle.pauli_word.specs.Word.{Word}
 use Rattle.pauli_word.specs.Bytes.{letters_in, in_full, word_in}
@@ -27,8 +26,8 @@ use Rattle.orbit.specs.declared.Walk.{Walk}
 use Rattle.orbit.specs.Calls.{word_call_checks, canonicalize_outcome, with_index_outcome, with_shift_outcome, word_at_outcome, orbit_list_outcome, begin_outcome, walk_in, entry, finished, entry_of, next_outcome, walk_checks}
 use Rattle.orbit.proofs.WordCalls.{checks_full}
 
-module _ (g : Group) (n : ℕ) (bytes : List ℕ) (k : ℕ) {v : Verdict} {why : Refusal} (told : outcome_of_verdict v ≡ verdict (word_call_checks g n bytes))
-    (e : v ≡ Verdict.Refused why) where
+module _ (g : Group) (n : ℕ) (bytes : List ℕ) (k : ℕ) {v : Result (Unit {0}) Refusal} {why : Refusal} (told : outcome_of v ≡ verdict (word_call_checks g n bytes))
+    (e : v ≡ Err why) where
   pub shift-refused : with_shift_outcome g n bytes k ≡ refusal_of why
   unfolding with_shift_outcome
   shift-refused =

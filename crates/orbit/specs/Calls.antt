@@ -1,5 +1,5 @@
 -- What each call of this crate comes to: its checks in their order, then its answer; and what the cases of a walk's step mean.
-use Rattle.std.specs.Prelude.{ℕ, suc, ◌*◌, Bool, ◌&&◌, not, cond, List, [], ◌∷◌, ◌++◌, ltb, leb, eqb}
+use Rattle.std.specs.Prelude.{ℕ, suc, ◌*◌, Bool, ◌&&◌, not, cond, List, [], ◌∷◌, ◌++◌, ltb, leb, eqb, Option, Some, None}
 use Rattle.outcome.specs.declared.Refusal.TheVariants as Refusal
 use Rattle.outcome.specs.Outcome.{Outcome, answer, refusal_of, Check, rule, unless}
 use Rattle.pauli_word.specs.Limits.{word_length}
@@ -14,8 +14,9 @@ use Rattle.group.specs.declared.Group.{Group}
 use Rattle.group.specs.Value.{no_group, generators_of, is_group, notAGroup}
 use Rattle.group.specs.Calls.{index_range, list_length}
 use Rattle.orbit.specs.declared.Walk.{Walk}
-use Rattle.orbit.specs.declared.Step.{Step}
-use Rattle.orbit.specs.declared.Step.TheVariants as Step
+use Rattle.orbit.specs.declared.CanonicalIndex.{CanonicalIndex}
+use Rattle.orbit.specs.declared.Entry.{Entry as EntryGiven}
+use Rattle.orbit.specs.declared.lent.Beginning.{Beginning}
 
 -- ---- calls that take a group and a word: 1, 14, 15, 36, 16, 17, and then their own
 
@@ -45,6 +46,10 @@ index_of p = p.1
 
 abbrev pub shift_of : Word × List ℕ → List ℕ
 shift_of p = p.1
+
+-- both as a call hands them back
+abbrev pub canonical_index : Word × ℕ → CanonicalIndex
+canonical_index p = record { word = bytes_of p.0; index = p.1 }
 
 -- the least word, and the counter of that index; k is the length of the counter list
 unfoldable pub with_shift_outcome : Group → ℕ → List ℕ → ℕ → Outcome (Word × List ℕ)
@@ -76,7 +81,7 @@ is_walk w = is_group w.group && clear_above w.group.sites w.word && leb w.index 
 abbrev pub notAWalk : Walk → Check
 notAWalk w = rule Refusal.InvalidValue (not (is_walk w))
 
--- what stands beside a refused beginning: no call takes it for a walk
+-- what stands in the place of a refused beginning: no call takes it for a walk
 unfoldable pub no_walk : Walk
 no_walk = record { group = no_group; word = no_word; index = suc max_order }
 
@@ -99,12 +104,16 @@ walk_checks w = site_count w.group.sites ∷ notAWalk w ∷ []
 unfoldable pub next_outcome : Walk → Outcome Entry
 next_outcome w = unless (walk_checks w) (answer (entry_of w))
 
-abbrev pub outcome_of_step : Step → Outcome Entry
-outcome_of_step (Step.Entry i) = answer (entry i)
-outcome_of_step Step.Finished = answer finished
-outcome_of_step (Step.Refused why) = refusal_of why
+-- a walk whose group is lent, at its beginning
+abbrev pub beginning : Walk → Beginning
+beginning w = record { at = w.word; index = w.index }
 
--- the word beside an entry: the walk's; zeros at the end
+-- an entry as a step gives it, with its word, which is the walk's; none at the end
+abbrev pub given_entry : Walk → Entry → Option EntryGiven
+given_entry w (entry i) = Some (record { index = i; word = w.word })
+given_entry w finished = None
+
+-- the word of an entry alone: zeros at the end
 abbrev pub entry_word : Walk → Entry → List ℕ
 entry_word w (entry i) = w.word
 entry_word w finished = no_word

@@ -1,5 +1,6 @@
 -- What lists of checks come to, and the calls that they stand before.
 -- What carries it: a refusal is no answer, so that a pass breaks no rule, and a refusal is by a broken one.
+use Rattle.std.specs.Prelude.{Result, Ok, Err, IsErrAnd}
 use Prim.Native.Nat.{ℕ, ◌<◌}
 use mathlib.Core.Path.{◌≡◌, refl, sym, ap, ◌∙◌}
 use mathlib.Core.Bool.{Bool, true, false, cond}
@@ -7,14 +8,18 @@ use mathlib.Core.List.{List, [], ◌∷◌, ◌++◌}
 use native.Mathlib.Omega.{arith}
 use Rattle.outcome.specs.declared.Refusal.{Refusal}
 use Rattle.outcome.specs.declared.Refusal.TheVariants as Refusal
-use Rattle.outcome.specs.declared.Verdict.{Verdict}
-use Rattle.outcome.specs.declared.Verdict.TheVariants as Verdict
-use Rattle.outcome.specs.Outcome.{outcome_of_verdict, Outcome, refused, answer, rule_number, refusal_of, Check, verdict, alone, given, unless, on_answer, done}
+use Rattle.outcome.specs.Outcome.{outcome_of, Outcome, refused, answer, rule_number, refusal_of, Check, verdict, alone, given, unless}
 
 -- ---- a refusal is no answer
 
 pub refused_apart : {A : Type 0} (k : ℕ) (vs : List ℕ) (a : A) → refused k vs ≡ answer a → ⊥
 refused_apart k vs a e = let z : ◌≡◌ {A = ℕ} 0 1 = cc in omega arith
+
+-- ---- a refusal that is handed on with `?`
+
+pub handed_on : {A : Type 0} (r : Result A Refusal) {why : Refusal} → IsErrAnd r (λ y. y ≡ why) → r ≡ Err why
+handed_on (Ok a) h = absurd h
+handed_on (Err y) h = ap Err h
 
 -- ---- one check, and those after it
 
@@ -99,39 +104,22 @@ unless_answer cs a b e = go (verdict cs) refl e
 
 -- ---- a call that has been told what its checks come to
 
-module _ (cs : List Check) (v : Verdict) (told : outcome_of_verdict v ≡ verdict cs) where
-  pub told-passes : v ≡ Verdict.Accepted → verdict cs ≡ answer tt
-  told-passes e = sym told ∙ ap outcome_of_verdict e
+module _ (cs : List Check) (v : Result (Unit {0}) Refusal) (told : outcome_of v ≡ verdict cs) where
+  pub told-passes : v ≡ Ok tt → verdict cs ≡ answer tt
+  told-passes e = sym told ∙ ap outcome_of e
 
-  told-verdict : {why : Refusal} → v ≡ Verdict.Refused why → verdict cs ≡ refusal_of why
-  told-verdict e = sym told ∙ ap outcome_of_verdict e
+  told-verdict : {why : Refusal} → v ≡ Err why → verdict cs ≡ refusal_of why
+  told-verdict e = sym told ∙ ap outcome_of e
 
-  pub told-refused : {A : Type 0} (o : Outcome A) {why : Refusal} → v ≡ Verdict.Refused why → unless cs o ≡ refusal_of why
+  pub told-refused : {A : Type 0} (o : Outcome A) {why : Refusal} → v ≡ Err why → unless cs o ≡ refusal_of why
   told-refused o {why} e = call-refused cs o why (told-verdict e)
 
   -- further checks come after them
-  pub told-refused-first : {A : Type 0} (ds : List Check) (o : Outcome A) {why : Refusal} → v ≡ Verdict.Refused why → unless (cs ++ ds) o ≡ refusal_of why
+  pub told-refused-first : {A : Type 0} (ds : List Check) (o : Outcome A) {why : Refusal} → v ≡ Err why → unless (cs ++ ds) o ≡ refusal_of why
   told-refused-first ds o {why} e = call-refused (cs ++ ds) o why (front_refused cs ds why (told-verdict e))
 
-  pub told-answers : {A : Type 0} {a b : A} → v ≡ Verdict.Accepted → b ≡ a → answer b ≡ unless cs (answer a)
+  pub told-answers : {A : Type 0} {a b : A} → v ≡ Ok tt → b ≡ a → answer b ≡ unless cs (answer a)
   told-answers {a} e same = ap answer same ∙ sym (call-answers cs (answer a) (told-passes e))
-
--- ---- a call whose answer stands beside what it says: whether there is one
-
-module _ {A : Type 0} (o : Outcome A) {v : Verdict} (says : outcome_of_verdict v ≡ on_answer done o) where
-  pub says-refused : {why : Refusal} → v ≡ Verdict.Refused why → o ≡ refusal_of why
-  says-refused {why} e = go o (sym (ap outcome_of_verdict e) ∙ says)
-    where
-      go : (o : Outcome A) → refusal_of why ≡ on_answer done o → o ≡ refusal_of why
-      go (refused k vs) p = cc
-      go (answer a) p = absurd (refused_apart _ _ tt p)
-
-  pub says-answers : v ≡ Verdict.Accepted → (a : A) × (o ≡ answer a)
-  says-answers e = go o (sym (ap outcome_of_verdict e) ∙ says)
-    where
-      go : (o : Outcome A) → answer tt ≡ on_answer done o → (a : A) × (o ≡ answer a)
-      go (refused k vs) p = absurd (refused_apart k vs tt (sym p))
-      go (answer a) p = (a, refl)
 
 -- ---- a rule's number has at most two digits
 

@@ -1,12 +1,7 @@
 -- What a call comes to: its answer, or a refusal by the number of the first rule broken, with the values that the rule names.
-use Rattle.std.specs.Prelude.{ℕ, List, [], ◌∷◌}
+use Rattle.std.specs.Prelude.{ℕ, List, [], ◌∷◌, Result, Ok, Err}
 use mathlib.Core.Bool.{Bool, cond}
 use Rattle.outcome.specs.declared.Refusal.{Refusal}
-use Rattle.outcome.specs.declared.Refusal.TheVariants as Refusal
-use Rattle.outcome.specs.declared.Verdict.{Verdict}
-use Rattle.outcome.specs.declared.Verdict.TheVariants as Verdict
-use Rattle.outcome.specs.declared.Number.{Number}
-use Rattle.outcome.specs.declared.Number.TheVariants as Number
 
 pub data Outcome (A : Type 0) : Type 0 where
   refused : ℕ → List ℕ → Outcome A
@@ -101,13 +96,9 @@ refusal_of why = refused (rule_number why) (rule_values why)
 
 -- ---- the answers that calls share
 
-abbrev pub outcome_of_verdict : Verdict → Outcome (Unit {0})
-outcome_of_verdict Verdict.Accepted = answer tt
-outcome_of_verdict (Verdict.Refused why) = refusal_of why
-
-abbrev pub outcome_of_number : Number → Outcome ℕ
-outcome_of_number (Number.Value k) = answer k
-outcome_of_number (Number.Refused why) = refusal_of why
+abbrev pub outcome_of : {A : Type 0} → Result A Refusal → Outcome A
+outcome_of (Ok a) = answer a
+outcome_of (Err why) = refusal_of why
 
 -- ---- checks
 

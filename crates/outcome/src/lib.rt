@@ -86,20 +86,6 @@ pub enum Refusal {
     DigitRange,
 }
 
-// What checks come to, and a call whose answer stands beside it or in a lent list.
-#[derive(Clone, Copy)]
-pub enum Verdict {
-    Accepted,
-    Refused(Refusal),
-}
-
-// What a call comes to that answers with a number.
-#[derive(Clone, Copy)]
-pub enum Number {
-    Value(usize),
-    Refused(Refusal),
-}
-
 // The number of the rule that a refusal is by.
 pub fn rule_number(why: Refusal) -> usize
     ensures { result ≡ rule_number why }

@@ -1,5 +1,7 @@
 -- How planes of machine words compare: two machine words differ first at the lowest bit of their exclusive or, planes at their first machine
 -- word that differs, and what is found so is the order of the words that the planes hold.
+use Rattle.std.specs.declared.cmp.Ordering.{Ordering}
+use Rattle.std.specs.declared.cmp.Ordering.TheVariants.{Less, Equal, Greater}
 use Prim.Native.Nat.{ℕ, zero, suc, ◌+◌, ◌-◌, ◌*◌, ◌/◌, ◌%◌, ◌^◌, ◌<◌, ◌≤◌}
 use mathlib.Core.Path.{◌≡◌, refl, sym, ap, ◌∙◌}
 use mathlib.Core.Logic.{⊎_elim}
@@ -13,8 +15,6 @@ use lib.Bits.{bit_xor}
 use lib.Count.{count_trailing_zeros, under}
 use lib.ListN.{length, get_or}
 use lib.Seq.{ext_get_or}
-use Rattle.pauli_word.specs.declared.Ordering.{Ordering}
-use Rattle.pauli_word.specs.declared.Ordering.TheVariants.{Less, Same, Greater}
 use Rattle.pauli_word.specs.Word.{bits, less_bits, less}
 use Rattle.pauli_word.specs.Bytes.{low_bits, number}
 use Rattle.pauli_word.specs.Calls.{order_of_bits, order_of_words}
@@ -75,7 +75,7 @@ trailing_one (suc w) x n h = go (λ m. trailing_one w (x / 2) m (omega arith)) (
 
 module _ (x y : ℕ) where
   -- without a difference they have the same bits
-  pub words_same : bit_xor x y ≡ 0 → Compared Same word_bits (bit_at x) (bit_at y)
+  pub words_same : bit_xor x y ≡ 0 → Compared Equal word_bits (bit_at x) (bit_at y)
   words_same e q h = xor_same (bit_at x q) (bit_at y q) (sym (bit_xor_lem x y q) ∙ ap (λ (d : ℕ). bit_at d q) e ∙ bit-zero q)
 
   module _ (some : bit_xor x y ≡ 0 → ⊥) (small : bit_xor x y < 2 ^ word_bits) where
@@ -146,7 +146,7 @@ pub compared_word : (o : Ordering) (a b : List ℕ) (i n : ℕ) → ((q : ℕ) �
     → (get_or a i 0 ≡ get_or b i 0 → ⊥) → get_or a i 0 < 2 ^ word_bits → get_or b i 0 < 2 ^ word_bits
     → Compared o word_bits (bit_at (get_or a i 0)) (bit_at (get_or b i 0)) → Compared o (word_bits * n) (bit_of a) (bit_of b)
 compared_word Less a b i n prefix l d fa fb c = less_word a b i prefix n l c
-compared_word Same a b i n prefix l d fa fb c = absurd (d (bits-same word_bits (get_or a i 0) (get_or b i 0) fa fb c))
+compared_word Equal a b i n prefix l d fa fb c = absurd (d (bits-same word_bits (get_or a i 0) (get_or b i 0) fa fb c))
 compared_word Greater a b i n prefix l d fa fb c = less_word b a i (λ q h. sym (prefix q h)) n l c
 
 -- ---- what is found is the order of the bits
@@ -178,7 +178,7 @@ less_listed n f g (q, h, same, x, y) =
 pub order_listed : (o : Ordering) (n : ℕ) (f g : ℕ → Bool) → Compared o n f g → order_of_bits (map f (below n)) (map g (below n)) ≡ o
 unfolding order_of_bits
 order_listed Less n f g c = rw (less_listed n f g c).0
-order_listed Same n f g c = ap (order_of_bits (map f (below n))) (sym (map-below-cong f g n false c)) ∙ order_refl (map f (below n))
+order_listed Equal n f g c = ap (order_of_bits (map f (below n))) (sym (map-below-cong f g n false c)) ∙ order_refl (map f (below n))
 order_listed Greater n f g c = rw ((less_listed n g f c).1, (less_listed n g f c).0)
 
 -- ---- and the order of words

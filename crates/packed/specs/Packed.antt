@@ -1,11 +1,11 @@
 -- Planes as machine words: bit q of a plane is bit q mod word_bits of its word q div word_bits, least significant first. What a plane holds is said
 -- bit by bit, for a plane of any number of words.
+use Rattle.std.specs.declared.cmp.Ordering.{Ordering}
+use Rattle.std.specs.declared.cmp.Ordering.TheVariants.{Less, Equal, Greater}
 use Rattle.std.specs.Prelude.{ℕ, ◌+◌, ◌*◌, ◌/◌, ◌%◌, ◌^◌, ◌<◌, ◌≤◌, ◌≡◌, Bool, true, false, ◌&&◌, not, List, map, ltb, get_or}
 use Rattle.pauli_word.specs.Limits.{plane_length}
 use Rattle.pauli_word.specs.Word.{Word, letter_of}
 use Rattle.pauli_word.specs.Bytes.{odd}
-use Rattle.pauli_word.specs.declared.Ordering.{Ordering}
-use Rattle.pauli_word.specs.declared.Ordering.TheVariants.{Less, Same, Greater}
 use Rattle.action.specs.Lists.{below}
 
 -- the bits of a machine word
@@ -51,7 +51,7 @@ LessAt n f g = (q : ℕ) × (q < n) × ((p : ℕ) → p < q → f p ≡ g p) × 
 -- how the first n bits of f stand to those of g
 abbrev pub Compared : Ordering → ℕ → (ℕ → Bool) → (ℕ → Bool) → Type 0
 Compared Less n f g = LessAt n f g
-Compared Same n f g = (q : ℕ) → q < n → f q ≡ g q
+Compared Equal n f g = (q : ℕ) → q < n → f q ≡ g q
 Compared Greater n f g = LessAt n g f
 
 -- where a rotation by s inside blocks of b sites sends site q

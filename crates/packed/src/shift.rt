@@ -59,11 +59,9 @@ pub fn fill_run(low: usize, high: usize, mask: &mut [u64])
     requires { (low ≤ high) × (high ≤ word_bits * length mask.old) }
     ensures { (q : ℕ) → bit_of mask.new q ≡ (not (ltb q low) && ltb q high) }
 {
-    let mut i = 0;
-    while i < mask.len() {
+    for i in 0..mask.len() {
         let word = ones_word(high, i) ^ ones_word(low, i);
         mask[i] = word;
-        i += 1;
     }
 }
 
@@ -71,9 +69,7 @@ pub fn fill_run(low: usize, high: usize, mask: &mut [u64])
 pub fn or_moved_up(s: usize, mask: &mut [u64])
     ensures { (q : ℕ) → q < word_bits * length mask.old → bit_of mask.new q ≡ (bit_of mask.old q || not (ltb q s) && bit_of mask.old (q - s)) }
 {
-    let mut i = mask.len();
-    while 0 < i {
-        i -= 1;
+    for i in (0..mask.len()).rev() {
         let moved = shl_word(mask, i, s);
         mask[i] = mask[i] | moved;
     }
@@ -97,6 +93,7 @@ pub fn fill_mask(low: usize, high: usize, block: usize, sites: usize, mask: &mut
     }
     fill_run(low, high, mask);
     let mut covered = block;
+    // A while: what is covered doubles, up to the sites.
     while covered < sites {
         let step = smaller(covered, sites - covered);
         or_moved_up(step, mask);
@@ -158,10 +155,8 @@ pub fn pad_words(plane: &[u64], before: usize, pad: &mut [u64])
     ensures before { (k : ℕ) → k < before → get_or pad.new k 0 ≡ 0 }
     ensures words { (k : ℕ) → get_or pad.new (before + k) 0 ≡ get_or plane.now k 0 }
 {
-    let mut i = 0;
-    while i < plane.len() {
+    for i in 0..plane.len() {
         pad[before + i] = plane[i];
-        i += 1;
     }
 }
 
@@ -171,11 +166,9 @@ pub fn turn_padded(pad: &[u64], before: usize, keep: &[u64], s: usize, t: usize,
     requires s_bound { (s ≤ word_bits * before) × (t ≤ word_bits * before) }
     ensures { (q : ℕ) → q < word_bits * length plane.old → bit_of plane.new q ≡ cond (bit_of keep.now q) (bit_of pad.now (word_bits * before + q - s)) (bit_of pad.now (word_bits * before + q + t)) }
 {
-    let mut i = 0;
-    while i < plane.len() {
+    for i in 0..plane.len() {
         let at = WORD_BITS * (before + i);
         plane[i] = pick(keep[i], window(pad, at - s), window(pad, at + t));
-        i += 1;
     }
 }
 

@@ -3,7 +3,7 @@ ghost use Rattle.std.specs.Prelude.{ℕ, ◌+◌, ◌*◌, ◌<◌, ◌≤◌, �
 ghost use Rattle.pauli_word.specs.Bytes.{plane_bits};
 ghost use Rattle.packed.specs.Packed.{word_bits, bit_at, bit_of, Compared};
 
-use pauli_word::Ordering;
+use std::cmp::Ordering;
 
 // The machine word of the eight bytes from `at` on, the first one lowest.
 pub fn word_from(bytes: &[u8], at: usize) -> u64
@@ -25,10 +25,8 @@ pub fn pack(plane: &[u8], words: &mut [u64])
     requires { 8 * length words.old ≤ length plane.now }
     ensures { (q : ℕ) → q < word_bits * length words.old → bit_of words.new q ≡ get_or (plane_bits plane.now) q false }
 {
-    let mut j: usize = 0;
-    while j < words.len() {
+    for j in 0..words.len() {
         words[j] = word_from(plane, 8 * j);
-        j += 1;
     }
 }
 
@@ -58,10 +56,8 @@ fn clear_rest(plane: &mut [u8], at: usize)
         → ((q : ℕ) → q < 8 * at → get_or (plane_bits plane.old) q false ≡ f q)
         → (q : ℕ) → get_or (plane_bits plane.new) q false ≡ f q }
 {
-    let mut j = at;
-    while j < plane.len() {
+    for j in at..plane.len() {
         plane[j] = 0;
-        j += 1;
     }
 }
 
@@ -70,12 +66,10 @@ pub fn unpack(words: &[u64], plane: &mut [u8])
     requires { 8 * length words.now ≤ length plane.old }
     ensures { (q : ℕ) → get_or (plane_bits plane.new) q false ≡ bit_of words.now q }
 {
-    let mut i: usize = 0;
-    while i < words.len() {
+    for i in 0..words.len() {
         put_word(words[i], plane, 8 * i);
-        i += 1;
     }
-    clear_rest(plane, 8 * i);
+    clear_rest(plane, 8 * words.len());
 }
 
 // How the bits of machine word x stand to those of y, lowest first: the lowest bit where they differ decides.
@@ -84,7 +78,7 @@ pub fn compare_word(x: u64, y: u64) -> Ordering
 {
     let d = x ^ y;
     if d == 0 {
-        return Ordering::Same;
+        return Ordering::Equal;
     }
     if (x >> u64::trailing_zeros(d)) % 2 == 0 {
         return Ordering::Less;
@@ -97,16 +91,14 @@ pub fn compare(a: &[u64], b: &[u64]) -> Ordering
     requires { length a.now ≡ length b.now }
     ensures { Compared result (word_bits * length a.now) (bit_of a.now) (bit_of b.now) }
 {
-    let mut i: usize = 0;
-    while i < a.len() {
+    for i in 0..a.len() {
         let x = a[i];
         let y = b[i];
         if x != y {
             return compare_word(x, y);
         }
-        i += 1;
     }
-    Ordering::Same
+    Ordering::Equal
 }
 
 // Copies src over dst.
@@ -114,9 +106,5 @@ pub fn copy(src: &[u64], dst: &mut [u64])
     requires { length src.now ≡ length dst.old }
     ensures { dst.new ≡ src.now }
 {
-    let mut i: usize = 0;
-    while i < src.len() {
-        dst[i] = src[i];
-        i += 1;
-    }
+    dst.copy_from_slice(src);
 }

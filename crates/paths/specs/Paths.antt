@@ -13,6 +13,8 @@ use Rattle.paths.specs.declared.least.Fixing.{Fixing}
 use Rattle.paths.specs.declared.least.Fixing.TheVariants as Fixing
 use Rattle.paths.specs.declared.plan.Path.{Path}
 use Rattle.paths.specs.declared.plan.Path.TheVariants as Path
+use Rattle.permutation.specs.declared.Lent.{Lent}
+use Rattle.rotation.specs.declared.shape.Shapes.{Shapes as ShapesFound}
 
 -- the shapes and the masks of a group's generators are at hand where it moves words by masks
 pub record Ready (m k n : ℕ) (targets strides rests masks : List ℕ) : Type 0 where
@@ -43,3 +45,11 @@ Says Fixing.Free gs w left = length (fixing gs w) ≡ 1
 Says (Fixing.Multiples step) gs w left = ByStep step gs w
 Says Fixing.Leading gs w left = Leading gs w (bit_of left)
 Says Fixing.Many gs w left = Unit {0}
+
+-- ---- of a lent group and the shapes found of it
+
+abbrev pub ReadyFor : ℕ → Lent → ShapesFound → List ℕ → Type 0
+ReadyFor m g s masks = Ready m g.generators g.sites g.targets.now s.strides s.rests masks
+
+abbrev pub Takes : Path → Lent → ℕ → ShapesFound → List ℕ → Type 0
+Takes path g order s masks = Taken path g.generators g.sites order g.targets.now g.orders.now s.strides s.rests masks

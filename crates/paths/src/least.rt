@@ -6,18 +6,20 @@ ghost use Rattle.action.specs.Index.{order_of};
 ghost use Rattle.action.specs.Permutation.{Generator};
 ghost use Rattle.action.specs.Orbit.{least as least_of, index_back, fixing};
 ghost use Rattle.pauli_word.specs.Word.{Word};
-ghost use Rattle.elements.specs.HeldGroup.{generators_in, Tables};
+ghost use Rattle.elements.specs.HeldGroup.{HoldsGroup, generators_held};
 ghost use Rattle.packed.specs.Packed.{word_bits, plane_words, bit_of, letters_at};
 ghost use Rattle.permutation.specs.Generators.{row_at};
-ghost use Rattle.rotation.specs.Rotation.{Rotates, Shapes, Planes};
-ghost use Rattle.grid.specs.Grid.{Steps};
+ghost use Rattle.rotation.specs.Rotation.{Rotates, Planes, Shaped};
+ghost use Rattle.grid.specs.Grid.{StepsBy};
 ghost use Rattle.grid.specs.Candidates.{Among, Leading};
 ghost use Rattle.grid.specs.Stages.{Staged};
-ghost use Rattle.paths.specs.Paths.{Taken, words_of, Says};
+ghost use Rattle.paths.specs.Paths.{words_of, Says, Takes};
 
 use crate::plan::Path;
 use grid::refine::Stage;
 use packed::PLANE_WORDS;
+use permutation::Lent;
+use rotation::shape::Shapes;
 
 // Which indices fix a word, as far as a path tells.
 #[derive(Clone, Copy)]
@@ -51,91 +53,66 @@ pub fn by_ties(ties: usize) -> Fixing
 }
 
 // The least word by masks, into a list.
-pub fn by_masks(
-    targets: &[u16],
-    orders: &[u32],
-    generators: usize,
-    sites: usize,
-    strides: &[usize],
-    rests: &[usize],
-    order: usize,
-    word: &[u8],
-    out: &mut [u8],
-) -> Led
-    requires tables { Tables generators sites targets.now orders.now }
-    requires shapes { Shapes generators sites targets.now strides.now rests.now }
-    requires accepted_word { AcceptedWord sites word.now }
-    requires order_value { order ≡ order_of (generators_in generators sites targets.now orders.now) }
+pub fn by_masks(group: &Lent<'_>, shapes: &Shapes, order: usize, word: &[u8], out: &mut [u8]) -> Led
+    requires tables { HoldsGroup group.now }
+    requires shapes { Shaped group.now shapes.now }
+    requires accepted_word { AcceptedWord group.now.sites word.now }
+    requires order_value { order ≡ order_of (generators_held group.now) }
     requires out_len { length out.old ≡ word_length }
-    ensures word { out.new ≡ bytes_of (least_of (generators_in generators sites targets.now orders.now) (letters_in sites word.now)) }
-    ensures index { result.index ≡ index_back (generators_in generators sites targets.now orders.now) (letters_in sites word.now) }
-    ensures fixing { (left : List ℕ) → Says result.fixing (generators_in generators sites targets.now orders.now) (letters_in sites word.now) left }
+    ensures word { out.new ≡ bytes_of (least_of (generators_held group.now) (letters_in group.now.sites word.now)) }
+    ensures index { result.index ≡ index_back (generators_held group.now) (letters_in group.now.sites word.now) }
+    ensures fixing { (left : List ℕ) → Says result.fixing (generators_held group.now) (letters_in group.now.sites word.now) left }
 {
-    let found = rotation::least::least_by_masks(
-        targets, orders, generators, sites, strides, rests, order, word,
-    );
+    let found = rotation::least::least_by_masks(group, shapes, order, word);
     let least = found.word;
     pauli_word::inner::copy(&least, out);
     Led {
-        index: elements::index::invert(targets, orders, generators, sites, found.index),
+        index: elements::index::invert(group, found.index),
         fixing: by_ties(found.ties),
     }
 }
 
 // The least word a byte a site, into a list.
-pub fn by_letters(
-    targets: &[u16],
-    orders: &[u32],
-    generators: usize,
-    sites: usize,
-    order: usize,
-    word: &[u8],
-    out: &mut [u8],
-) -> Led
-    requires tables { Tables generators sites targets.now orders.now }
-    requires accepted_word { AcceptedWord sites word.now }
-    requires order_value { order ≡ order_of (generators_in generators sites targets.now orders.now) }
+pub fn by_letters(group: &Lent<'_>, order: usize, word: &[u8], out: &mut [u8]) -> Led
+    requires tables { HoldsGroup group.now }
+    requires accepted_word { AcceptedWord group.now.sites word.now }
+    requires order_value { order ≡ order_of (generators_held group.now) }
     requires out_len { length out.old ≡ word_length }
-    ensures word { out.new ≡ bytes_of (least_of (generators_in generators sites targets.now orders.now) (letters_in sites word.now)) }
-    ensures index { result.index ≡ index_back (generators_in generators sites targets.now orders.now) (letters_in sites word.now) }
-    ensures fixing { (left : List ℕ) → Says result.fixing (generators_in generators sites targets.now orders.now) (letters_in sites word.now) left }
+    ensures word { out.new ≡ bytes_of (least_of (generators_held group.now) (letters_in group.now.sites word.now)) }
+    ensures index { result.index ≡ index_back (generators_held group.now) (letters_in group.now.sites word.now) }
+    ensures fixing { (left : List ℕ) → Says result.fixing (generators_held group.now) (letters_in group.now.sites word.now) left }
 {
-    let found = lettered::walk::least_by_letters(targets, orders, generators, sites, order, word);
+    let found = lettered::walk::least_by_letters(group, order, word);
     let least = found.word;
     pauli_word::inner::copy(&least, out);
     Led {
-        index: elements::index::invert(targets, orders, generators, sites, found.index),
+        index: elements::index::invert(group, found.index),
         fixing: by_ties(found.ties),
     }
 }
 
 // The least word of a word that one candidate alone leads to, in the planes x and z, where it moves, and into a list.
 pub fn by_one(
-    targets: &[u16],
-    orders: &[u32],
-    generators: usize,
-    sites: usize,
-    strides: &[usize],
-    rests: &[usize],
+    group: &Lent<'_>,
+    shapes: &Shapes,
     k: usize,
     left: &[u64],
     x: &mut [u64],
     z: &mut [u64],
     out: &mut [u8],
 ) -> Led
-    requires tables { Tables generators sites targets.now orders.now }
-    requires shapes { Shapes generators sites targets.now strides.now rests.now }
-    requires planes { Planes sites (length x.old) x.old z.old }
-    requires leading { Leading (generators_in generators sites targets.now orders.now) (letters_at sites x.old z.old) (bit_of left.now) × ((j : ℕ) → bit_of left.now j ≡ eqb j k) }
+    requires tables { HoldsGroup group.now }
+    requires shapes { Shaped group.now shapes.now }
+    requires planes { Planes group.now.sites (length x.old) x.old z.old }
+    requires leading { Leading (generators_held group.now) (letters_at group.now.sites x.old z.old) (bit_of left.now) × ((j : ℕ) → bit_of left.now j ≡ eqb j k) }
     requires out_len { length out.old ≡ word_length }
-    ensures word { out.new ≡ bytes_of (least_of (generators_in generators sites targets.now orders.now) (letters_at sites x.old z.old)) }
-    ensures index { result.index ≡ index_back (generators_in generators sites targets.now orders.now) (letters_at sites x.old z.old) }
-    ensures fixing { Says result.fixing (generators_in generators sites targets.now orders.now) (letters_at sites x.old z.old) left.now }
+    ensures word { out.new ≡ bytes_of (least_of (generators_held group.now) (letters_at group.now.sites x.old z.old)) }
+    ensures index { result.index ≡ index_back (generators_held group.now) (letters_at group.now.sites x.old z.old) }
+    ensures fixing { Says result.fixing (generators_held group.now) (letters_at group.now.sites x.old z.old) left.now }
 {
-    let forward = elements::index::invert(targets, orders, generators, sites, k);
-    rotation::reach::reach(
-        targets, orders, generators, sites, strides, rests, forward, x, z,
-    );
+    let Lent { sites, .. } = *group;
+    let forward = elements::index::invert(group, k);
+    rotation::reach::reach(group, shapes, forward, x, z);
     rotation::planes::put_planes(x, z, sites, out);
     Led {
         index: k,
@@ -145,73 +122,58 @@ pub fn by_one(
 
 // The least word of a word by the candidates that lead, in the planes x and z, where it moves, and into a list.
 pub fn by_leading(
-    targets: &[u16],
-    orders: &[u32],
-    generators: usize,
-    sites: usize,
-    strides: &[usize],
-    rests: &[usize],
+    group: &Lent<'_>,
+    shapes: &Shapes,
     order: usize,
     left: &[u64],
     x: &mut [u64],
     z: &mut [u64],
     out: &mut [u8],
 ) -> Led
-    requires tables { Tables generators sites targets.now orders.now }
-    requires shapes { Shapes generators sites targets.now strides.now rests.now }
-    requires order_value { order ≡ order_of (generators_in generators sites targets.now orders.now) }
-    requires planes { Planes sites (length x.old) x.old z.old }
-    requires leading { Leading (generators_in generators sites targets.now orders.now) (letters_at sites x.old z.old) (bit_of left.now) }
+    requires tables { HoldsGroup group.now }
+    requires shapes { Shaped group.now shapes.now }
+    requires order_value { order ≡ order_of (generators_held group.now) }
+    requires planes { Planes group.now.sites (length x.old) x.old z.old }
+    requires leading { Leading (generators_held group.now) (letters_at group.now.sites x.old z.old) (bit_of left.now) }
     requires out_len { length out.old ≡ word_length }
-    ensures word { out.new ≡ bytes_of (least_of (generators_in generators sites targets.now orders.now) (letters_at sites x.old z.old)) }
-    ensures index { result.index ≡ index_back (generators_in generators sites targets.now orders.now) (letters_at sites x.old z.old) }
-    ensures fixing { Says result.fixing (generators_in generators sites targets.now orders.now) (letters_at sites x.old z.old) left.now }
+    ensures word { out.new ≡ bytes_of (least_of (generators_held group.now) (letters_at group.now.sites x.old z.old)) }
+    ensures index { result.index ≡ index_back (generators_held group.now) (letters_at group.now.sites x.old z.old) }
+    ensures fixing { Says result.fixing (generators_held group.now) (letters_at group.now.sites x.old z.old) left.now }
 {
-    let forward = grid::settle::forward_of(targets, orders, generators, sites, order, left);
-    rotation::reach::reach(
-        targets, orders, generators, sites, strides, rests, forward, x, z,
-    );
+    let Lent { sites, .. } = *group;
+    let forward = grid::settle::forward_of(group, order, left);
+    rotation::reach::reach(group, shapes, forward, x, z);
     rotation::planes::put_planes(x, z, sites, out);
     Led {
-        index: elements::index::invert(targets, orders, generators, sites, forward),
+        index: elements::index::invert(group, forward),
         fixing: Fixing::Leading,
     }
 }
 
 // The least word by the least rotation, of a group of one generator that shifts by 1 inside blocks, into a list.
-pub fn by_turns(
-    targets: &[u16],
-    orders: &[u32],
-    sites: usize,
-    block: usize,
-    word: &[u8],
-    out: &mut [u8],
-) -> Led
-    requires tables { Tables 1 sites targets.now orders.now }
-    requires rotates { Rotates sites 1 block (row_at sites targets.now 0) × (get_or orders.now 0 0 ≡ block) }
-    requires accepted_word { AcceptedWord sites word.now }
+pub fn by_turns(group: &Lent<'_>, block: usize, word: &[u8], out: &mut [u8]) -> Led
+    requires tables { HoldsGroup group.now }
+    requires one { group.now.generators ≡ 1 }
+    requires rotates { Rotates group.now.sites 1 block (row_at group.now.sites group.now.targets.now 0) × (get_or group.now.orders.now 0 0 ≡ block) }
+    requires accepted_word { AcceptedWord group.now.sites word.now }
     requires out_len { length out.old ≡ word_length }
-    ensures word { out.new ≡ bytes_of (least_of (generators_in 1 sites targets.now orders.now) (letters_in sites word.now)) }
-    ensures index { result.index ≡ index_back (generators_in 1 sites targets.now orders.now) (letters_in sites word.now) }
-    ensures fixing { (left : List ℕ) → Says result.fixing (generators_in 1 sites targets.now orders.now) (letters_in sites word.now) left }
+    ensures word { out.new ≡ bytes_of (least_of (generators_held group.now) (letters_in group.now.sites word.now)) }
+    ensures index { result.index ≡ index_back (generators_held group.now) (letters_in group.now.sites word.now) }
+    ensures fixing { (left : List ℕ) → Says result.fixing (generators_held group.now) (letters_in group.now.sites word.now) left }
 {
-    let turn = cyclic::least::canonicalize_block_cyclic(targets, orders, sites, block, word);
+    let turn = cyclic::least::canonicalize_block_cyclic(group, block, word);
     let least = turn.word;
     pauli_word::inner::copy(&least, out);
     Led {
-        index: elements::index::invert(targets, orders, 1, sites, turn.index),
+        index: elements::index::invert(group, turn.index),
         fixing: Fixing::Multiples(turn.step),
     }
 }
 
 // The least word where refining stopped: by the least rotation where one generator shifts by 1 inside blocks, else by moving the word to each candidate left.
 pub fn when_tired(
-    targets: &[u16],
-    orders: &[u32],
-    generators: usize,
-    sites: usize,
-    strides: &[usize],
-    rests: &[usize],
+    group: &Lent<'_>,
+    shapes: &Shapes,
     order: usize,
     word: &[u8],
     x: &mut [u64],
@@ -219,41 +181,35 @@ pub fn when_tired(
     left: &mut [u64],
     out: &mut [u8],
 ) -> Led
-    requires tables { Tables generators sites targets.now orders.now }
-    requires shapes { Shapes generators sites targets.now strides.now rests.now }
-    requires order_value { order ≡ order_of (generators_in generators sites targets.now orders.now) }
-    requires accepted_word { AcceptedWord sites word.now × ((letters_at sites x.old z.old) ≡ letters_in sites word.now) }
-    requires planes { Planes sites (length x.old) x.old z.old × (length z.old ≡ length x.old) }
+    requires tables { HoldsGroup group.now }
+    requires shapes { Shaped group.now shapes.now }
+    requires order_value { order ≡ order_of (generators_held group.now) }
+    requires accepted_word { AcceptedWord group.now.sites word.now × ((letters_at group.now.sites x.old z.old) ≡ letters_in group.now.sites word.now) }
+    requires planes { Planes group.now.sites (length x.old) x.old z.old × (length z.old ≡ length x.old) }
     requires order_bound { (order ≤ word_bits * length left.old) × (length left.old ≤ plane_words) }
-    requires among { Among (generators_in generators sites targets.now orders.now) (letters_at sites x.old z.old) (bit_of left.old) }
+    requires among { Among (generators_held group.now) (letters_at group.now.sites x.old z.old) (bit_of left.old) }
     requires out_len { length out.old ≡ word_length }
-    ensures word { out.new ≡ bytes_of (least_of (generators_in generators sites targets.now orders.now) (letters_in sites word.now)) }
-    ensures index { result.index ≡ index_back (generators_in generators sites targets.now orders.now) (letters_in sites word.now) }
-    ensures fixing { Says result.fixing (generators_in generators sites targets.now orders.now) (letters_in sites word.now) left.new }
+    ensures word { out.new ≡ bytes_of (least_of (generators_held group.now) (letters_in group.now.sites word.now)) }
+    ensures index { result.index ≡ index_back (generators_held group.now) (letters_in group.now.sites word.now) }
+    ensures fixing { Says result.fixing (generators_held group.now) (letters_in group.now.sites word.now) left.new }
 {
+    let Lent { generators, .. } = *group;
+    let Shapes { strides, rests } = *shapes;
     if generators == 1 {
         let block = 1 + rests[0];
         if strides[0] == 1 && order == block {
-            return by_turns(targets, orders, sites, block, word, out);
+            return by_turns(group, block, word, out);
         }
     }
-    grid::settle::settle(
-        targets, orders, generators, sites, strides, rests, order, x, z, left,
-    );
-    by_leading(
-        targets, orders, generators, sites, strides, rests, order, left, x, z, out,
-    )
+    grid::settle::settle(group, shapes, order, x, z, left);
+    by_leading(group, shapes, order, left, x, z, out)
 }
 
 // The least word where more than one candidate may be left, by where refining stopped.
 pub fn by_many(
     stage: Stage,
-    targets: &[u16],
-    orders: &[u32],
-    generators: usize,
-    sites: usize,
-    strides: &[usize],
-    rests: &[usize],
+    group: &Lent<'_>,
+    shapes: &Shapes,
     order: usize,
     word: &[u8],
     x: &mut [u64],
@@ -261,37 +217,29 @@ pub fn by_many(
     left: &mut [u64],
     out: &mut [u8],
 ) -> Led
-    requires tables { Tables generators sites targets.now orders.now }
-    requires shapes { Shapes generators sites targets.now strides.now rests.now }
-    requires order_value { order ≡ order_of (generators_in generators sites targets.now orders.now) }
-    requires accepted_word { AcceptedWord sites word.now × ((letters_at sites x.old z.old) ≡ letters_in sites word.now) }
-    requires planes { Planes sites (length x.old) x.old z.old × (length z.old ≡ length x.old) }
+    requires tables { HoldsGroup group.now }
+    requires shapes { Shaped group.now shapes.now }
+    requires order_value { order ≡ order_of (generators_held group.now) }
+    requires accepted_word { AcceptedWord group.now.sites word.now × ((letters_at group.now.sites x.old z.old) ≡ letters_in group.now.sites word.now) }
+    requires planes { Planes group.now.sites (length x.old) x.old z.old × (length z.old ≡ length x.old) }
     requires order_bound { (order ≤ word_bits * length left.old) × (length left.old ≤ plane_words) }
-    requires staged { Staged stage (generators_in generators sites targets.now orders.now) (letters_at sites x.old z.old) (bit_of left.old) }
+    requires staged { Staged stage (generators_held group.now) (letters_at group.now.sites x.old z.old) (bit_of left.old) }
     requires out_len { length out.old ≡ word_length }
-    ensures word { out.new ≡ bytes_of (least_of (generators_in generators sites targets.now orders.now) (letters_in sites word.now)) }
-    ensures index { result.index ≡ index_back (generators_in generators sites targets.now orders.now) (letters_in sites word.now) }
-    ensures fixing { Says result.fixing (generators_in generators sites targets.now orders.now) (letters_in sites word.now) left.new }
+    ensures word { out.new ≡ bytes_of (least_of (generators_held group.now) (letters_in group.now.sites word.now)) }
+    ensures index { result.index ≡ index_back (generators_held group.now) (letters_in group.now.sites word.now) }
+    ensures fixing { Says result.fixing (generators_held group.now) (letters_in group.now.sites word.now) left.new }
 {
     if stage.is_tired() {
-        return when_tired(
-            targets, orders, generators, sites, strides, rests, order, word, x, z, left, out,
-        );
+        return when_tired(group, shapes, order, word, x, z, left, out);
     }
-    by_leading(
-        targets, orders, generators, sites, strides, rests, order, left, x, z, out,
-    )
+    by_leading(group, shapes, order, left, x, z, out)
 }
 
 // The least word by where refining stopped.
 pub fn by_stage(
     stage: Stage,
-    targets: &[u16],
-    orders: &[u32],
-    generators: usize,
-    sites: usize,
-    strides: &[usize],
-    rests: &[usize],
+    group: &Lent<'_>,
+    shapes: &Shapes,
     order: usize,
     word: &[u8],
     x: &mut [u64],
@@ -299,36 +247,28 @@ pub fn by_stage(
     left: &mut [u64],
     out: &mut [u8],
 ) -> Led
-    requires tables { Tables generators sites targets.now orders.now }
-    requires shapes { Shapes generators sites targets.now strides.now rests.now }
-    requires order_value { order ≡ order_of (generators_in generators sites targets.now orders.now) }
-    requires accepted_word { AcceptedWord sites word.now × ((letters_at sites x.old z.old) ≡ letters_in sites word.now) }
-    requires planes { Planes sites (length x.old) x.old z.old × (length z.old ≡ length x.old) }
+    requires tables { HoldsGroup group.now }
+    requires shapes { Shaped group.now shapes.now }
+    requires order_value { order ≡ order_of (generators_held group.now) }
+    requires accepted_word { AcceptedWord group.now.sites word.now × ((letters_at group.now.sites x.old z.old) ≡ letters_in group.now.sites word.now) }
+    requires planes { Planes group.now.sites (length x.old) x.old z.old × (length z.old ≡ length x.old) }
     requires order_bound { (order ≤ word_bits * length left.old) × (length left.old ≤ plane_words) }
-    requires staged { Staged stage (generators_in generators sites targets.now orders.now) (letters_at sites x.old z.old) (bit_of left.old) }
+    requires staged { Staged stage (generators_held group.now) (letters_at group.now.sites x.old z.old) (bit_of left.old) }
     requires out_len { length out.old ≡ word_length }
-    ensures word { out.new ≡ bytes_of (least_of (generators_in generators sites targets.now orders.now) (letters_in sites word.now)) }
-    ensures index { result.index ≡ index_back (generators_in generators sites targets.now orders.now) (letters_in sites word.now) }
-    ensures fixing { Says result.fixing (generators_in generators sites targets.now orders.now) (letters_in sites word.now) left.new }
+    ensures word { out.new ≡ bytes_of (least_of (generators_held group.now) (letters_in group.now.sites word.now)) }
+    ensures index { result.index ≡ index_back (generators_held group.now) (letters_in group.now.sites word.now) }
+    ensures fixing { Says result.fixing (generators_held group.now) (letters_in group.now.sites word.now) left.new }
 {
     let Stage::Alone(k) = stage else {
-        return by_many(
-            stage, targets, orders, generators, sites, strides, rests, order, word, x, z, left, out,
-        );
+        return by_many(stage, group, shapes, order, word, x, z, left, out);
     };
-    by_one(
-        targets, orders, generators, sites, strides, rests, k, left, x, z, out,
-    )
+    by_one(group, shapes, k, left, x, z, out)
 }
 
 // The least word on a grid, with planes to work in.
 pub fn in_planes(
-    targets: &[u16],
-    orders: &[u32],
-    generators: usize,
-    sites: usize,
-    strides: &[usize],
-    rests: &[usize],
+    group: &Lent<'_>,
+    shapes: &Shapes,
     masks: &[u64],
     order: usize,
     word: &[u8],
@@ -337,60 +277,50 @@ pub fn in_planes(
     left: &mut [u64],
     out: &mut [u8],
 ) -> Led
-    requires tables { Tables generators sites targets.now orders.now }
-    requires shapes { Shapes generators sites targets.now strides.now rests.now }
-    requires order_value { order ≡ order_of (generators_in generators sites targets.now orders.now) }
-    requires steps { Steps generators order (length left.old) orders.now strides.now rests.now masks.now }
-    requires accepted_word { AcceptedWord sites word.now }
-    requires x_len_bound { (length x.old ≤ plane_words) × (sites ≤ word_bits * length x.old) × (length z.old ≡ length x.old) }
+    requires tables { HoldsGroup group.now }
+    requires shapes { Shaped group.now shapes.now }
+    requires order_value { order ≡ order_of (generators_held group.now) }
+    requires steps { StepsBy group.now order (length left.old) shapes.now masks.now }
+    requires accepted_word { AcceptedWord group.now.sites word.now }
+    requires x_len_bound { (length x.old ≤ plane_words) × (group.now.sites ≤ word_bits * length x.old) × (length z.old ≡ length x.old) }
     requires out_len { length out.old ≡ word_length }
-    ensures word { out.new ≡ bytes_of (least_of (generators_in generators sites targets.now orders.now) (letters_in sites word.now)) }
-    ensures index { result.index ≡ index_back (generators_in generators sites targets.now orders.now) (letters_in sites word.now) }
-    ensures fixing { Says result.fixing (generators_in generators sites targets.now orders.now) (letters_in sites word.now) left.new }
+    ensures word { out.new ≡ bytes_of (least_of (generators_held group.now) (letters_in group.now.sites word.now)) }
+    ensures index { result.index ≡ index_back (generators_held group.now) (letters_in group.now.sites word.now) }
+    ensures fixing { Says result.fixing (generators_held group.now) (letters_in group.now.sites word.now) left.new }
 {
+    let Lent { sites, .. } = *group;
     rotation::planes::pack_planes(word, sites, x, z);
-    let stage = grid::refine::refine(
-        targets, orders, generators, sites, strides, rests, masks, order, x, z, left,
-    );
-    by_stage(
-        stage, targets, orders, generators, sites, strides, rests, order, word, x, z, left, out,
-    )
+    let stage = grid::refine::refine(group, shapes, masks, order, x, z, left);
+    by_stage(stage, group, shapes, order, word, x, z, left, out)
 }
 
 // The least word on a grid.
 pub fn by_grid(
-    targets: &[u16],
-    orders: &[u32],
-    generators: usize,
-    sites: usize,
-    strides: &[usize],
-    rests: &[usize],
+    group: &Lent<'_>,
+    shapes: &Shapes,
     masks: &[u64],
     order: usize,
     word: &[u8],
     left: &mut [u64],
     out: &mut [u8],
 ) -> Led
-    requires tables { Tables generators sites targets.now orders.now }
-    requires shapes { Shapes generators sites targets.now strides.now rests.now }
-    requires order_value { order ≡ order_of (generators_in generators sites targets.now orders.now) }
-    requires steps { Steps generators order (length left.old) orders.now strides.now rests.now masks.now }
-    requires accepted_word { AcceptedWord sites word.now }
+    requires tables { HoldsGroup group.now }
+    requires shapes { Shaped group.now shapes.now }
+    requires order_value { order ≡ order_of (generators_held group.now) }
+    requires steps { StepsBy group.now order (length left.old) shapes.now masks.now }
+    requires accepted_word { AcceptedWord group.now.sites word.now }
     requires out_len { length out.old ≡ word_length }
-    ensures word { out.new ≡ bytes_of (least_of (generators_in generators sites targets.now orders.now) (letters_in sites word.now)) }
-    ensures index { result.index ≡ index_back (generators_in generators sites targets.now orders.now) (letters_in sites word.now) }
-    ensures fixing { Says result.fixing (generators_in generators sites targets.now orders.now) (letters_in sites word.now) left.new }
+    ensures word { out.new ≡ bytes_of (least_of (generators_held group.now) (letters_in group.now.sites word.now)) }
+    ensures index { result.index ≡ index_back (generators_held group.now) (letters_in group.now.sites word.now) }
+    ensures fixing { Says result.fixing (generators_held group.now) (letters_in group.now.sites word.now) left.new }
 {
+    let Lent { sites, .. } = *group;
     let words = rotation::planes::words_in_use(sites);
     let mut x = [0u64; PLANE_WORDS];
     let mut z = [0u64; PLANE_WORDS];
     in_planes(
-        targets,
-        orders,
-        generators,
-        sites,
-        strides,
-        rests,
+        group,
+        shapes,
         masks,
         order,
         word,
@@ -404,34 +334,26 @@ pub fn by_grid(
 // The least word of a word's orbit, into a list, the index that leads back, and which indices fix the word.
 pub fn least_into(
     path: Path,
-    targets: &[u16],
-    orders: &[u32],
-    generators: usize,
-    sites: usize,
-    strides: &[usize],
-    rests: &[usize],
+    group: &Lent<'_>,
+    shapes: &Shapes,
     masks: &[u64],
     order: usize,
     word: &[u8],
     left: &mut [u64],
     out: &mut [u8],
 ) -> Led
-    requires tables { Tables generators sites targets.now orders.now }
-    requires taken { Taken path generators sites order targets.now orders.now strides.now rests.now masks.now }
-    requires order_value { order ≡ order_of (generators_in generators sites targets.now orders.now) }
-    requires accepted_word { AcceptedWord sites word.now }
+    requires tables { HoldsGroup group.now }
+    requires taken { Takes path group.now order shapes.now masks.now }
+    requires order_value { order ≡ order_of (generators_held group.now) }
+    requires accepted_word { AcceptedWord group.now.sites word.now }
     requires left_len { (length left.old ≡ words_of path) × (length out.old ≡ word_length) }
-    ensures word { out.new ≡ bytes_of (least_of (generators_in generators sites targets.now orders.now) (letters_in sites word.now)) }
-    ensures index { result.index ≡ index_back (generators_in generators sites targets.now orders.now) (letters_in sites word.now) }
-    ensures fixing { Says result.fixing (generators_in generators sites targets.now orders.now) (letters_in sites word.now) left.new }
+    ensures word { out.new ≡ bytes_of (least_of (generators_held group.now) (letters_in group.now.sites word.now)) }
+    ensures index { result.index ≡ index_back (generators_held group.now) (letters_in group.now.sites word.now) }
+    ensures fixing { Says result.fixing (generators_held group.now) (letters_in group.now.sites word.now) left.new }
 {
     match path {
-        Path::Grid(_) => by_grid(
-            targets, orders, generators, sites, strides, rests, masks, order, word, left, out,
-        ),
-        Path::Masks => by_masks(
-            targets, orders, generators, sites, strides, rests, order, word, out,
-        ),
-        Path::Letters => by_letters(targets, orders, generators, sites, order, word, out),
+        Path::Grid(_) => by_grid(group, shapes, masks, order, word, left, out),
+        Path::Masks => by_masks(group, shapes, order, word, out),
+        Path::Letters => by_letters(group, order, word, out),
     }
 }

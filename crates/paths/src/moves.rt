@@ -1,104 +1,85 @@
 // Words moved on from entry to entry, by masks where every generator rotates inside blocks.
-ghost use Rattle.std.specs.Prelude.{◌≡◌, true, ◌*◌, ◌≤◌, length};
+ghost use Rattle.std.specs.Prelude.{◌≡◌, ◌*◌, ◌≤◌, length, IfSome};
 ghost use Rattle.pauli_word.specs.Limits.{word_length};
 ghost use Rattle.pauli_word.specs.Bytes.{AcceptedWord, letters_in, bytes_of};
 ghost use Rattle.permutation.specs.Limits.{max_generators};
 ghost use Rattle.action.specs.Index.{order_of, digits};
 ghost use Rattle.action.specs.Orbit.{stepped, orbit_list};
-ghost use Rattle.elements.specs.HeldGroup.{generators_in, Tables, encode_all};
+ghost use Rattle.elements.specs.HeldGroup.{encode_all, HoldsGroup, generators_held};
 ghost use Rattle.packed.specs.Packed.{word_bits, plane_words};
-ghost use Rattle.paths.specs.Paths.{Ready};
+ghost use Rattle.paths.specs.Paths.{ReadyFor};
 
 use packed::PLANE_WORDS;
 use pauli_word::WORD_BYTES;
-use permutation::MAX_GENERATORS;
+use permutation::Lent;
 use rotation::planes::MASK_WORDS;
+use rotation::shape::Shapes;
 
-// Whether every generator rotates inside blocks; the strides, the rests and the masks then.
-pub fn find_masks(
-    targets: &[u16],
-    orders: &[u32],
-    generators: usize,
-    sites: usize,
-    m: usize,
-    strides: &mut [usize],
-    rests: &mut [usize],
-    masks: &mut [u64],
-) -> bool
-    requires tables { Tables generators sites targets.now orders.now }
-    requires sites_bound { (sites ≤ word_bits * m) × (m ≤ plane_words) }
-    requires strides_len { (length strides.old ≡ max_generators) × (length rests.old ≡ max_generators) × (max_generators * m ≤ length masks.old) }
-    ensures { result ≡ true → Ready m generators sites targets.now strides.new rests.new masks.new }
+// The shapes of a group's generators where every one rotates inside blocks, and the masks then.
+pub fn find_masks(group: &Lent<'_>, m: usize, masks: &mut [u64]) -> Option<Shapes>
+    requires tables { HoldsGroup group.now }
+    requires sites_bound { (group.now.sites ≤ word_bits * m) × (m ≤ plane_words) }
+    requires masks_len { max_generators * m ≤ length masks.old }
+    ensures { IfSome result (λ s. ReadyFor m group.now s masks.new) }
 {
-    if !rotation::shape::find_shapes(targets, generators, sites, strides, rests) {
-        return false;
-    }
-    rotation::planes::fill_masks(strides, rests, generators, sites, m, masks);
-    true
+    let Lent {
+        generators,
+        sites,
+        ..
+    } = *group;
+    let shapes = rotation::shape::find_shapes(group)?;
+    rotation::planes::fill_masks(&shapes.strides, &shapes.rests, generators, sites, m, masks);
+    Some(shapes)
 }
 
 // The walk's step from the entry of an index to the next by masks, of a stored word; x and z are room for its planes.
 pub fn advance_planes(
-    targets: &[u16],
-    orders: &[u32],
-    generators: usize,
-    sites: usize,
-    strides: &[usize],
-    rests: &[usize],
+    group: &Lent<'_>,
+    shapes: &Shapes,
     masks: &[u64],
     index: usize,
     word: &mut [u8],
     x: &mut [u64],
     z: &mut [u64],
 )
-    requires tables { Tables generators sites targets.now orders.now }
-    requires ready { Ready (length x.old) generators sites targets.now strides.now rests.now masks.now }
-    requires sites_bound { (sites ≤ word_bits * length x.old) × (length x.old ≤ plane_words) × (length z.old ≡ length x.old) }
-    requires accepted_word { AcceptedWord sites word.old }
-    ensures { word.new ≡ bytes_of (stepped (generators_in generators sites targets.now orders.now) (digits (generators_in generators sites targets.now orders.now) index) (letters_in sites word.old)) }
+    requires tables { HoldsGroup group.now }
+    requires ready { ReadyFor (length x.old) group.now shapes.now masks.now }
+    requires sites_bound { (group.now.sites ≤ word_bits * length x.old) × (length x.old ≤ plane_words) × (length z.old ≡ length x.old) }
+    requires accepted_word { AcceptedWord group.now.sites word.old }
+    ensures { word.new ≡ bytes_of (stepped (generators_held group.now) (digits (generators_held group.now) index) (letters_in group.now.sites word.old)) }
 {
+    let Lent { sites, .. } = *group;
     let m = x.len();
     rotation::planes::pack_planes(word, sites, x, z);
-    rotation::walk::advance(
-        targets, orders, generators, sites, strides, rests, masks, m, index, x, z,
-    );
+    rotation::walk::advance(group, shapes, masks, m, index, x, z);
     let moved = rotation::planes::unpack_planes(x, z, sites);
     pauli_word::inner::copy(&moved, word);
 }
 
 // The walk's step from the entry of an index to the next, of a stored word.
 pub fn advance(
-    targets: &[u16],
-    orders: &[u32],
-    generators: usize,
-    sites: usize,
+    group: &Lent<'_>,
     m: usize,
-    by_masks: bool,
-    strides: &[usize],
-    rests: &[usize],
+    shapes: &Option<Shapes>,
     masks: &[u64],
     index: usize,
     word: &mut [u8],
 )
-    requires tables { Tables generators sites targets.now orders.now }
-    requires sites_bound { (sites ≤ word_bits * m) × (m ≤ plane_words) }
-    requires ready { by_masks ≡ true → Ready m generators sites targets.now strides.now rests.now masks.now }
-    requires accepted_word { AcceptedWord sites word.old }
-    ensures { word.new ≡ bytes_of (stepped (generators_in generators sites targets.now orders.now) (digits (generators_in generators sites targets.now orders.now) index) (letters_in sites word.old)) }
+    requires tables { HoldsGroup group.now }
+    requires sites_bound { (group.now.sites ≤ word_bits * m) × (m ≤ plane_words) }
+    requires ready { IfSome shapes.now (λ s. ReadyFor m group.now s masks.now) }
+    requires accepted_word { AcceptedWord group.now.sites word.old }
+    ensures { word.new ≡ bytes_of (stepped (generators_held group.now) (digits (generators_held group.now) index) (letters_in group.now.sites word.old)) }
 {
-    if !by_masks {
-        elements::walk::advance(targets, orders, generators, sites, index, word);
+    let Some(shapes) = shapes else {
+        elements::walk::advance(group, index, word);
         return;
-    }
+    };
     let mut x = [0u64; PLANE_WORDS];
     let mut z = [0u64; PLANE_WORDS];
     advance_planes(
-        targets,
-        orders,
-        generators,
-        sites,
-        strides,
-        rests,
+        group,
+        shapes,
         masks,
         index,
         word,
@@ -108,77 +89,36 @@ pub fn advance(
 }
 
 // The walk's step where nothing is found yet.
-pub fn step(
-    targets: &[u16],
-    orders: &[u32],
-    generators: usize,
-    sites: usize,
-    index: usize,
-    word: &mut [u8],
-)
-    requires tables { Tables generators sites targets.now orders.now }
-    requires accepted_word { AcceptedWord sites word.old }
-    ensures { word.new ≡ bytes_of (stepped (generators_in generators sites targets.now orders.now) (digits (generators_in generators sites targets.now orders.now) index) (letters_in sites word.old)) }
+pub fn step(group: &Lent<'_>, index: usize, word: &mut [u8])
+    requires tables { HoldsGroup group.now }
+    requires accepted_word { AcceptedWord group.now.sites word.old }
+    ensures { word.new ≡ bytes_of (stepped (generators_held group.now) (digits (generators_held group.now) index) (letters_in group.now.sites word.old)) }
 {
+    let Lent { sites, .. } = *group;
     let m = rotation::planes::words_in_use(sites);
-    let mut strides = [0usize; MAX_GENERATORS];
-    let mut rests = [0usize; MAX_GENERATORS];
     let mut masks = [0u64; MASK_WORDS];
-    let by_masks = find_masks(
-        targets,
-        orders,
-        generators,
-        sites,
-        m,
-        &mut strides,
-        &mut rests,
-        &mut masks,
-    );
-    advance(
-        targets, orders, generators, sites, m, by_masks, &strides, &rests, &masks, index, word,
-    );
+    let shapes = find_masks(group, m, &mut masks);
+    advance(group, m, &shapes, &masks, index, word);
 }
 
 // The orbit list: the bytes of one entry for each index.
-pub fn fill_orbit(
-    targets: &[u16],
-    orders: &[u32],
-    generators: usize,
-    sites: usize,
-    order: usize,
-    word: &[u8],
-    list: &mut [u8],
-)
-    requires tables { Tables generators sites targets.now orders.now }
-    requires accepted_word { AcceptedWord sites word.now }
-    requires order_value { order ≡ order_of (generators_in generators sites targets.now orders.now) }
+pub fn fill_orbit(group: &Lent<'_>, order: usize, word: &[u8], list: &mut [u8])
+    requires tables { HoldsGroup group.now }
+    requires accepted_word { AcceptedWord group.now.sites word.now }
+    requires order_value { order ≡ order_of (generators_held group.now) }
     requires list_len { length list.old ≡ word_length * order }
-    ensures { list.new ≡ encode_all (orbit_list (generators_in generators sites targets.now orders.now) (letters_in sites word.now)) }
+    ensures { list.new ≡ encode_all (orbit_list (generators_held group.now) (letters_in group.now.sites word.now)) }
 {
+    let Lent { sites, .. } = *group;
     let m = rotation::planes::words_in_use(sites);
-    let mut strides = [0usize; MAX_GENERATORS];
-    let mut rests = [0usize; MAX_GENERATORS];
     let mut masks = [0u64; MASK_WORDS];
-    let by_masks = find_masks(
-        targets,
-        orders,
-        generators,
-        sites,
-        m,
-        &mut strides,
-        &mut rests,
-        &mut masks,
-    );
+    let shapes = find_masks(group, m, &mut masks);
     let mut here = [0u8; WORD_BYTES];
     pauli_word::inner::copy(word, &mut here);
-    let mut i = 0;
-    while i < order {
+    for i in 0..order {
         let at = WORD_BYTES * i;
         let end = at + WORD_BYTES;
         pauli_word::inner::copy(&here, &mut list[at..end]);
-        advance(
-            targets, orders, generators, sites, m, by_masks, &strides, &rests, &masks, i, &mut here,
-        );
-        i += 1;
+        advance(group, m, &shapes, &masks, i, &mut here);
     }
 }

@@ -1,8 +1,8 @@
 -- What the checks of a word come to, rule by rule, and that a word which passes them is accepted.
 use Prim.Native.Nat.{ℕ, ◌/◌, ◌<◌, ◌≤◌}
 use mathlib.Core.Path.{◌≡◌, refl, sym, ap, ◌∙◌}
-use mathlib.Core.Logic.{◌⊎◌, inl, inr}
-use mathlib.Core.Bool.{Bool, true, false, not, ◌&&◌, ◌||◌, and-eq-true_iff}
+use mathlib.Core.Logic.{inl, inr}
+use mathlib.Core.Bool.{Bool, true, false, ◌&&◌, ◌||◌, and-eq-true_iff}
 use mathlib.Core.List.{List, [], ◌∷◌}
 use native.Mathlib.Decide.{ℕ_discrete}
 use native.Mathlib.Omega.{arith}
@@ -13,9 +13,9 @@ use Rattle.outcome.specs.declared.Refusal.TheVariants as Refusal
 use Rattle.outcome.specs.Outcome.{answer, verdict, refusal_of}
 use Rattle.outcome.proofs.Outcomes.{verdict-fine}
 use Rattle.pauli_word.specs.Limits.{max_sites, plane_length, word_length, old_plane_length, old_sites, old_length}
-use Rattle.pauli_word.specs.Bytes.{clear_from, Bytes, Accepted, AcceptedWord, EitherLength, EitherWord, in_full}
+use Rattle.pauli_word.specs.Bytes.{clear_from, Bytes, EitherLength, EitherWord, in_full}
 use Rattle.pauli_word.specs.Calls.{word_checks, clear_above, either_length, past_old, site_count, word_size, old_size, bit_above, compare_checks}
-use Rattle.pauli_word.proofs.Forms.{full_same, either-length, either-accepted, full-spread, full-clear}
+use Rattle.pauli_word.proofs.Forms.{full_same, either-length, either-accepted, full-clear}
 
 -- ---- the tests of a length
 

@@ -2,19 +2,17 @@
 -- plane change none of its bits.
 use Prim.Native.Nat.{ℕ, zero, suc, ◌+◌, ◌-◌, ◌*◌, ◌/◌, ◌≤◌}
 use mathlib.Core.Path.{◌≡◌, refl, sym, ap, ap₂, ◌∙◌}
-use mathlib.Core.Logic.{◌⊎◌, inl, inr}
-use mathlib.Core.Bool.{Bool, true, false, ◌&&◌, not, cond, false≢true}
+use mathlib.Core.Logic.{inl, inr}
+use mathlib.Core.Bool.{Bool, true, false, ◌&&◌, not, false≢true}
 use mathlib.Core.List.{List, [], ◌∷◌, ◌++◌, append-nil, append_assoc}
 use native.Mathlib.Nat.{add-sub_cancel_left, sub-zero, zero-sub, suc-sub-suc}
 use native.Mathlib.Decide.{ℕ_discrete}
 use native.Mathlib.Omega.{arith}
-use lib.Dec.{eqb}
 use lib.ListN.{length, take, drop, replicate, length-append, length-drop, length-replicate, replicate-append-replicate, take-append-drop}
 use lib.Seq.{take_at, drop_at, length-take-le, take-append-le}
 use borrow.Author.Tests.{eq-eqb, ne_eqb}
 use borrow.Rule.Slice.PartMut.{post_of, put_mid}
 use Rattle.pauli_word.specs.Limits.{plane_length, word_length, old_plane_length, old_length}
-use Rattle.pauli_word.specs.Word.{Word}
 use Rattle.pauli_word.specs.Bytes.{low_bits, plane_bits, clear, clear_from, Bytes, Accepted, AcceptedWord, EitherLength, EitherWord, filled_up, spread, in_full, letters_in, bytes_of, word_in, decode, letters_of}
 use Rattle.pauli_word.specs.Calls.{clear_above}
 use Rattle.pauli_word.proofs.Planes.{plane_bits-append, plane_bits-length}

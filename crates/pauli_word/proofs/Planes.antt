@@ -12,7 +12,6 @@ use lib.Bits.{bit_or}
 use lib.Dec.{eqb}
 use lib.ListN.{length, get_or, set, take, drop, length-append, length-take, drop_of_length-le, get_or-append, get_or-eq_default}
 use lib.Seq.{get_or-append-add, set-append_left, set_out, set-get_or, drop-append-add, drop-append-le, drop-cons, drop-nil, take_at, drop_at}
-use borrow.Author.Tests.{eq-eqb, ne_eqb}
 use lib.Pow.{pow_mono, pow-lt, shr_lt}
 use Rattle.pauli_word.specs.Bytes.{odd, low_bits, number, plane_bits, plane_of, clear, clear_from, Bytes, byte_values}
 use Rattle.pauli_word.proofs.Bits.{pad, odd_cases, low_bits_length, number_low_bits, low_bits_number, number-below, low_bits_at, low_bits_set, set_fits, low_bits_drop, low_bits_clear, or_none}

@@ -1,4 +1,6 @@
 -- Text words: words and texts go into each other without loss, and what a text that is read letter by letter comes to.
+use Rattle.pauli_word.specs.declared.inner.Site.{Site}
+use Rattle.std.specs.Prelude.{Option, Some, None}
 use Prim.Native.Nat.{ℕ, zero, suc, ◌+◌, ◌≤◌, ◌<◌}
 use mathlib.Core.Path.{◌≡◌, refl, sym, ap, ap₂, subst, ◌∙◌}
 use mathlib.Core.Bool.{Bool, true, false, ◌&&◌, cond, false≢true, and-eq-true_iff}
@@ -9,7 +11,6 @@ use lib.Dec.{eqb}
 use lib.ListN.{length, get_or, take, length-map}
 use lib.Seq.{length-take-le, take_all}
 use borrow.Author.Tests.{ne_eqb, eqb-true, lt-ltb, le-ltb}
-use Rattle.pauli_word.specs.declared.letter.LetterBits.TheVariants.{Bits, Other}
 use Rattle.pauli_word.specs.Limits.{max_sites, plane_length}
 use Rattle.outcome.specs.declared.Refusal.TheVariants as Refusal
 use Rattle.outcome.specs.Outcome.{answer, refusal_of}
@@ -65,24 +66,28 @@ spell-read_text (b ∷ text) h =
 -- ---- what `read` tells of a byte
 
 -- a byte other than the four writes no letter
-pub no_letter : (b : ℕ) → (b ≡ 73 → ⊥) → (b ≡ 88 → ⊥) → (b ≡ 89 → ⊥) → (b ≡ 90 → ⊥) → letter_bits b ≡ Other
+pub no_letter : (b : ℕ) → (b ≡ 73 → ⊥) → (b ≡ 88 → ⊥) → (b ≡ 89 → ⊥) → (b ≡ 90 → ⊥) → letter_bits b ≡ None
 no_letter b i x y z = simp (ne_eqb b 73 i, ne_eqb b 88 x, ne_eqb b 89 y, ne_eqb b 90 z)
 
-never : (x z : Bool) → Bits x z ≡ Other → ⊥
-never x z e = let n : ◌≡◌ {A = ℕ} 0 1 = cc in omega arith
+-- the letter that a byte writes, as it is read
+abbrev told : ℕ → Option Site
+told b = Some (record { x = x_bit (letter b); z = z_bit (letter b) })
 
-pub bits-letter : (b : ℕ) (x z : Bool) → letter_bits b ≡ Bits x z → (is_letter b ≡ true) × (x ≡ x_bit (letter b)) × (z ≡ z_bit (letter b))
-bits-letter b x z = go (is_letter b)
+never : (s : Site) → Some s ≡ None → ⊥
+never s e = let n : ◌≡◌ {A = ℕ} 0 1 = cc in omega arith
+
+pub bits-letter : (b : ℕ) (s : Site) → letter_bits b ≡ Some s → (is_letter b ≡ true) × (s.x ≡ x_bit (letter b)) × (s.z ≡ z_bit (letter b))
+bits-letter b s = go (is_letter b)
   where
-    go : (t : Bool) → cond t (Bits (x_bit (letter b)) (z_bit (letter b))) Other ≡ Bits x z → (t ≡ true) × (x ≡ x_bit (letter b)) × (z ≡ z_bit (letter b))
+    go : (t : Bool) → cond t (told b) None ≡ Some s → (t ≡ true) × (s.x ≡ x_bit (letter b)) × (s.z ≡ z_bit (letter b))
     go true e = (refl, cc, cc)
-    go false e = absurd (never x z (sym e))
+    go false e = absurd (never s (sym e))
 
-pub other-letter : (b : ℕ) → letter_bits b ≡ Other → is_letter b ≡ false
+pub other-letter : (b : ℕ) → letter_bits b ≡ None → is_letter b ≡ false
 other-letter b = go (is_letter b)
   where
-    go : (t : Bool) → cond t (Bits (x_bit (letter b)) (z_bit (letter b))) Other ≡ Other → t ≡ false
-    go true e = absurd (never (x_bit (letter b)) (z_bit (letter b)) e)
+    go : (t : Bool) → cond t (told b) None ≡ None → t ≡ false
+    go true e = absurd (never _ e)
     go false e = refl
 
 -- ---- what reading a text comes to

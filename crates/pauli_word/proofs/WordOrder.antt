@@ -1,5 +1,7 @@
 -- The order of words of one length is a strict total order; `same` is equality; and comparing the bits of two accepted words is comparing
 -- the words. The last goes by parts: the first difference of two lists is that of their first parts, or else that of their rest.
+use Rattle.std.specs.declared.cmp.Ordering.{Ordering}
+use Rattle.std.specs.declared.cmp.Ordering.TheVariants.{Less, Equal, Greater}
 use Prim.Native.Nat.{ℕ, suc, ◌+◌, ◌-◌, ◌*◌, ◌/◌, ◌%◌, ◌<◌, ◌≤◌, min}
 use mathlib.Core.Path.{◌≡◌, refl, sym, ap, ap₂, ◌∙◌}
 use mathlib.Core.Logic.{◌⊎◌, inl, inr}
@@ -12,8 +14,6 @@ use native.Mathlib.Omega.{arith}
 use lib.Dec.{eqb}
 use lib.ListN.{length, get_or, take, drop, drop_of_length-le, length-append, length-map, length-take, length-drop, take-append-drop}
 use lib.Seq.{take_at, drop_at, drop-cons}
-use Rattle.pauli_word.specs.declared.Ordering.{Ordering}
-use Rattle.pauli_word.specs.declared.Ordering.TheVariants.{Less, Same, Greater}
 use Rattle.pauli_word.specs.Word.{Letter, I, X, Y, Z, Word, x_bit, z_bit, bits, same_letter, same, less_bits, less}
 use Rattle.pauli_word.specs.Bytes.{odd, low_bits, number, plane_bits, letters_of, decode, clear, clear_from, Accepted, byte_values}
 use Rattle.pauli_word.specs.Calls.{order_of_bits, order_of_words}
@@ -139,10 +139,10 @@ less-total v w l = go (less_bits-total (bits v) (bits w) (bits_long v ∙ ap₂ 
 -- the first answer that is no tie
 abbrev pub or_else_by : Ordering → Ordering → Ordering
 or_else_by Less o = Less
-or_else_by Same o = o
+or_else_by Equal o = o
 or_else_by Greater o = Greater
 
-pub order_refl : (xs : List Bool) → order_of_bits xs xs ≡ Same
+pub order_refl : (xs : List Bool) → order_of_bits xs xs ≡ Equal
 unfolding order_of_bits
 order_refl xs = rw less_bits_irrefl
 
@@ -156,14 +156,14 @@ order_append (false ∷ xs) (true ∷ ys) us vs l = refl
 order_append (true ∷ xs) (false ∷ ys) us vs l = refl
 order_append (true ∷ xs) (true ∷ ys) us vs l = order_append xs ys us vs (suc_inj l)
 
-never : Less ≡ Same → ⊥
+never : Less ≡ Equal → ⊥
 never e = let z : ◌≡◌ {A = ℕ} 0 1 = cc in omega arith
 
-never' : Greater ≡ Same → ⊥
+never' : Greater ≡ Equal → ⊥
 never' e = let z : ◌≡◌ {A = ℕ} 0 1 = cc in omega arith
 
 -- two lists of one length that tie are the same
-order_same : (xs ys : List Bool) → length xs ≡ length ys → order_of_bits xs ys ≡ Same → xs ≡ ys
+order_same : (xs ys : List Bool) → length xs ≡ length ys → order_of_bits xs ys ≡ Equal → xs ≡ ys
 unfolding order_of_bits less_bits
 order_same [] [] l e = refl
 order_same [] (y ∷ ys) l e = absurd (suc-ne-zero (length ys) (sym l))
@@ -173,9 +173,9 @@ order_same (false ∷ xs) (true ∷ ys) l e = absurd (never e)
 order_same (true ∷ xs) (false ∷ ys) l e = absurd (never' e)
 order_same (true ∷ xs) (true ∷ ys) l e = ap (λ (t : List Bool). true ∷ t) (order_same xs ys (suc_inj l) e)
 
-same_of-same : (o : Ordering) → or_else_by o Same ≡ o
+same_of-same : (o : Ordering) → or_else_by o Equal ≡ o
 same_of-same Less = refl
-same_of-same Same = refl
+same_of-same Equal = refl
 same_of-same Greater = refl
 
 clear_alike : (xs ys : List Bool) → length xs ≡ length ys → clear xs ≡ true → clear ys ≡ true → xs ≡ ys
@@ -260,7 +260,7 @@ module _ (k x y : ℕ) (h : k < 8) where
       rw left_over
       (order_head (odd x) (odd y) (low_bits (8 - (k + 1)) (x / 2)) (low_bits (8 - (k + 1)) (y / 2)) (ap (λ (r : ℕ). eqb r 1) (le_antisymm g l)))
 
-pub digits_end : (k x y : ℕ) → 8 ≤ k → order_of_bits (low_bits (8 - k) x) (low_bits (8 - k) y) ≡ Same
+pub digits_end : (k x y : ℕ) → 8 ≤ k → order_of_bits (low_bits (8 - k) x) (low_bits (8 - k) y) ≡ Equal
 unfolding order_of_bits less_bits low_bits
 digits_end k x y h = let e : 8 - k ≡ 0 = omega arith in rw e
 
@@ -279,7 +279,7 @@ module _ (a b : List ℕ) (i : ℕ) (la : i < length a) (lb : i < length b) wher
       → order_of_bits (plane_bits (drop i a)) (plane_bits (drop i b)) ≡ order_of_bits (low_bits 8 (get_or a i 0)) (low_bits 8 (get_or b i 0))
   byte-apart fa fb h = byte-first ∙ decided (order_of_bits (low_bits 8 (get_or a i 0)) (low_bits 8 (get_or b i 0))) refl
     where
-      tie : order_of_bits (low_bits 8 (get_or a i 0)) (low_bits 8 (get_or b i 0)) ≡ Same → ⊥
+      tie : order_of_bits (low_bits 8 (get_or a i 0)) (low_bits 8 (get_or b i 0)) ≡ Equal → ⊥
       tie e =
           h
           (sym (number_low_bits 8 (get_or a i 0) fa)
@@ -290,7 +290,7 @@ module _ (a b : List ℕ) (i : ℕ) (la : i < length a) (lb : i < length b) wher
           → or_else_by (order_of_bits (low_bits 8 (get_or a i 0)) (low_bits 8 (get_or b i 0))) (order_of_bits (plane_bits (drop (suc i) a)) (plane_bits (drop (suc i) b)))
           ≡ order_of_bits (low_bits 8 (get_or a i 0)) (low_bits 8 (get_or b i 0))
       decided Less e = rw e
-      decided Same e = absurd (tie e)
+      decided Equal e = absurd (tie e)
       decided Greater e = rw e
 
   -- equal bytes do not
@@ -303,21 +303,21 @@ module _ (a b : List ℕ) (i : ℕ) (la : i < length a) (lb : i < length b) wher
       ∙ ap (λ (j : ℕ). order_of_bits (plane_bits (drop j a)) (plane_bits (drop j b))) (sym (add-one i))
 
 -- where one list ends, nothing is left to differ
-order_nil : (xs : List Bool) → order_of_bits xs [] ≡ Same
+order_nil : (xs : List Bool) → order_of_bits xs [] ≡ Equal
 unfolding order_of_bits less_bits
 order_nil [] = refl
 order_nil (x ∷ xs) = refl
 
-nil_order : (ys : List Bool) → order_of_bits [] ys ≡ Same
+nil_order : (ys : List Bool) → order_of_bits [] ys ≡ Equal
 unfolding order_of_bits less_bits
 nil_order [] = refl
 nil_order (y ∷ ys) = refl
 
-pub bytes_end : (a b : List ℕ) (i : ℕ) → min (length a) (length b) ≤ i → order_of_bits (plane_bits (drop i a)) (plane_bits (drop i b)) ≡ Same
+pub bytes_end : (a b : List ℕ) (i : ℕ) → min (length a) (length b) ≤ i → order_of_bits (plane_bits (drop i a)) (plane_bits (drop i b)) ≡ Equal
 unfolding plane_bits
 bytes_end a b i h = go (dec_le (length a) i)
   where
-    go : Dec (length a ≤ i) → order_of_bits (plane_bits (drop i a)) (plane_bits (drop i b)) ≡ Same
+    go : Dec (length a ≤ i) → order_of_bits (plane_bits (drop i a)) (plane_bits (drop i b)) ≡ Equal
     go (yes l) = ap (λ (p : List ℕ). order_of_bits (plane_bits p) (plane_bits (drop i b))) (drop_of_length-le a l) ∙ nil_order (plane_bits (drop i b))
     go (no l) =
         let k : length b ≤ i = omega arith in

@@ -1,14 +1,13 @@
 -- What each call of this crate comes to: its checks in their order, then its answer.
-use Rattle.std.specs.Prelude.{ℕ, ◌-◌, Bool, not, ◌&&◌, ◌||◌, cond, List, [], ◌∷◌, ◌++◌, ltb, eqb, length, take, drop, replicate}
-use Rattle.outcome.specs.declared.Refusal.TheVariants as Refusal
-use Rattle.pauli_word.specs.declared.Comparison.{Comparison}
-use Rattle.pauli_word.specs.declared.Comparison.TheVariants as Comparison
-use Rattle.pauli_word.specs.declared.letter.LetterBits.{LetterBits}
-use Rattle.pauli_word.specs.declared.letter.LetterBits.TheVariants.{Bits, Other}
-use Rattle.pauli_word.specs.declared.Ordering.{Ordering}
-use Rattle.pauli_word.specs.declared.Ordering.TheVariants.{Less, Same, Greater}
+use Rattle.pauli_word.specs.declared.TextWord.{TextWord}
+use Rattle.pauli_word.specs.declared.WordText.{WordText}
+use Rattle.pauli_word.specs.declared.inner.Site.{Site}
+use Rattle.std.specs.declared.cmp.Ordering.{Ordering}
+use Rattle.std.specs.declared.cmp.Ordering.TheVariants.{Less, Equal, Greater}
+use Rattle.outcome.specs.declared.Refusal.{Refusal}
+use Rattle.std.specs.Prelude.{ℕ, ◌-◌, Bool, not, ◌&&◌, ◌||◌, cond, List, [], ◌∷◌, ◌++◌, ltb, eqb, length, take, drop, replicate, Option, Some, None}
 use Rattle.pauli_word.specs.Limits.{max_sites, plane_length, word_length, old_sites, old_length}
-use Rattle.outcome.specs.Outcome.{Outcome, answer, refusal_of, Check, rule, unless, or_else}
+use Rattle.outcome.specs.Outcome.{Outcome, answer, Check, rule, unless, or_else}
 use Rattle.pauli_word.specs.Word.{Word, x_bit, z_bit, less_bits, less, weight}
 use Rattle.pauli_word.specs.Bytes.{clear_from, bytes_of, in_full, word_in}
 use Rattle.pauli_word.specs.Text.{is_letter, letter, letters_alone, first_other, read_text, spell}
@@ -61,7 +60,11 @@ word_checks n bytes = site_count n ∷ word_size bytes ∷ old_size n bytes ∷ 
 unfoldable pub from_text_outcome : List ℕ → Outcome Word
 from_text_outcome text = unless (text_length text ∷ other_letter text ∷ []) (answer (read_text text))
 
--- the bytes beside the answer: the word's, or zeros on refusal
+-- what a call hands back of the word: its letters counted, and its bytes
+abbrev pub text_word : Word → TextWord
+text_word w = record { sites = length w; word = bytes_of w }
+
+-- the bytes of the word, or zeros on refusal
 unfoldable pub from_text_bytes : List ℕ → List ℕ
 from_text_bytes text = or_else bytes_of (replicate word_length 0) (from_text_outcome text)
 
@@ -70,7 +73,11 @@ from_text_bytes text = or_else bytes_of (replicate word_length 0) (from_text_out
 unfoldable pub to_text_outcome : ℕ → List ℕ → Outcome (List ℕ)
 to_text_outcome n bytes = unless (word_checks n bytes) (answer (spell (word_in n bytes)))
 
--- the bytes beside the answer: the text and zeros after it, or zeros alone on refusal
+-- what a call hands back of the text: its letters counted, and the text with zeros after it
+abbrev pub word_text : List ℕ → WordText
+word_text text = record { letters = length text; text = text ++ replicate (max_sites - length text) 0 }
+
+-- the text and zeros after it, or zeros alone on refusal
 unfoldable pub to_text_bytes : ℕ → List ℕ → List ℕ
 to_text_bytes n bytes =
     or_else (λ (text : List ℕ). text ++ replicate (max_sites - length text) 0) (replicate max_sites 0) (to_text_outcome n bytes)
@@ -82,13 +89,13 @@ weight_outcome n bytes = unless (word_checks n bytes) (answer (weight (word_in n
 
 -- ---- the letter that a byte of a text writes, as its two bits
 
-abbrev pub letter_bits : ℕ → LetterBits
-letter_bits b = cond (is_letter b) (Bits (x_bit (letter b)) (z_bit (letter b))) Other
+abbrev pub letter_bits : ℕ → Option Site
+letter_bits b = cond (is_letter b) (Some (record { x = x_bit (letter b); z = z_bit (letter b) })) None
 
 -- ---- compare: how the first of two words stands to the second
 
 unfoldable pub order_of_words : Word → Word → Ordering
-order_of_words v w = cond (less v w) Less (cond (less w v) Greater Same)
+order_of_words v w = cond (less v w) Less (cond (less w v) Greater Equal)
 
 -- 1, then 15 of either word, then 36 of either, then 17 of either
 abbrev pub compare_checks : ℕ → List ℕ → List ℕ → List Check
@@ -98,10 +105,6 @@ compare_checks n a b =
 unfoldable pub compare_outcome : ℕ → List ℕ → List ℕ → Outcome Ordering
 compare_outcome n a b = unless (compare_checks n a b) (answer (order_of_words (word_in n a) (word_in n b)))
 
-abbrev pub outcome_of_comparison : Comparison → Outcome Ordering
-outcome_of_comparison (Comparison.Order o) = answer o
-outcome_of_comparison (Comparison.Refused why) = refusal_of why
-
 -- the order of two lists of bits
 unfoldable pub order_of_bits : List Bool → List Bool → Ordering
-order_of_bits a b = cond (less_bits a b) Less (cond (less_bits b a) Greater Same)
+order_of_bits a b = cond (less_bits a b) Less (cond (less_bits b a) Greater Equal)

@@ -1,48 +1,48 @@
 // What the calls come to once their checks have passed, and the checks of two words. Whoever calls a function here owes its `requires`.
 ghost use Rattle.std.specs.Prelude.{◌≡◌, ◌-◌, [], ◌∷◌, ◌++◌, length, replicate};
 ghost use Rattle.pauli_word.specs.Limits.{max_sites};
-ghost use Rattle.outcome.specs.Outcome.{verdict, outcome_of_verdict};
+ghost use Rattle.outcome.specs.Outcome.{verdict, outcome_of};
 ghost use Rattle.pauli_word.specs.Word.{weight};
 ghost use Rattle.pauli_word.specs.Bytes.{AcceptedWord, EitherLength, letters_in};
 ghost use Rattle.pauli_word.specs.Text.{spell};
 ghost use Rattle.pauli_word.specs.Calls.{bit_above, compare_checks};
 
 use crate::{MAX_SITES, inner, letter};
-use outcome::{Refusal, Verdict};
+use outcome::Refusal;
 
 // The checks of two words of n sites: 1, 15 of either, 36 of either, 17 of either.
-pub fn both_checked(n: usize, a: &[u8], b: &[u8]) -> Verdict
-    ensures { outcome_of_verdict result ≡ verdict (compare_checks n a.now b.now) }
+pub fn both_checked(n: usize, a: &[u8], b: &[u8]) -> Result<(), Refusal>
+    ensures { outcome_of result ≡ verdict (compare_checks n a.now b.now) }
 {
     if MAX_SITES < n {
-        return Verdict::Refused(Refusal::TooManySites);
+        return Err(Refusal::TooManySites);
     }
     if !inner::either_length(a.len()) {
-        return Verdict::Refused(Refusal::WordLength);
+        return Err(Refusal::WordLength);
     }
     if !inner::either_length(b.len()) {
-        return Verdict::Refused(Refusal::WordLength);
+        return Err(Refusal::WordLength);
     }
     if inner::past_old(n, a.len()) {
-        return Verdict::Refused(Refusal::OldWordSites);
+        return Err(Refusal::OldWordSites);
     }
     if inner::past_old(n, b.len()) {
-        return Verdict::Refused(Refusal::OldWordSites);
+        return Err(Refusal::OldWordSites);
     }
     both_clear(n, a, b)
 }
 
 // The last of them: 17 of either.
-pub fn both_clear(n: usize, a: &[u8], b: &[u8]) -> Verdict
+pub fn both_clear(n: usize, a: &[u8], b: &[u8]) -> Result<(), Refusal>
     requires { EitherLength (length a.now) × EitherLength (length b.now) }
-    ensures { outcome_of_verdict result ≡ verdict (bit_above n a.now ∷ bit_above n b.now ∷ []) }
+    ensures { outcome_of result ≡ verdict (bit_above n a.now ∷ bit_above n b.now ∷ []) }
 {
     if inner::clear_above(n, a) {
         if inner::clear_above(n, b) {
-            return Verdict::Accepted;
+            return Ok(());
         }
     }
-    Verdict::Refused(Refusal::BitAboveSites)
+    Err(Refusal::BitAboveSites)
 }
 
 // The text of an accepted word, and zeros after it.
@@ -51,11 +51,9 @@ pub fn spelled(n: usize, word: &[u8]) -> [u8; MAX_SITES]
     ensures { result ≡ spell (letters_in n word.now) ++ replicate (max_sites - n) 0 }
 {
     let mut text = [0u8; MAX_SITES];
-    let mut q = 0;
-    while q < n {
+    for q in 0..n {
         let s = inner::site_at(word, q);
         text[q] = letter::spelled(s.x, s.z);
-        q += 1;
     }
     text
 }
@@ -66,13 +64,11 @@ pub fn weighed(n: usize, word: &[u8]) -> usize
     ensures { result ≡ weight (letters_in n word.now) }
 {
     let mut sum: usize = 0;
-    let mut q = 0;
-    while q < n {
+    for q in 0..n {
         let s = inner::site_at(word, q);
         if letter::spelled(s.x, s.z) != b'I' {
             sum += 1;
         }
-        q += 1;
     }
     sum
 }

@@ -1,12 +1,13 @@
 // What the crates above need of words: their checks, their bits, how bytes compare, and bytes copied. Whoever calls a function here owes its `requires`.
 ghost use Rattle.std.specs.Prelude.{◌≡◌, false, ◌+◌, ◌≤◌, length, get_or, take, drop, replicate};
 ghost use Rattle.pauli_word.specs.Limits.{plane_length, word_length};
-ghost use Rattle.outcome.specs.Outcome.{verdict, outcome_of_verdict};
+ghost use Rattle.outcome.specs.Outcome.{verdict, outcome_of};
 ghost use Rattle.pauli_word.specs.Bytes.{plane_bits, with_site, EitherLength, spread as spread_of, in_full};
 ghost use Rattle.pauli_word.specs.Calls.{either_length, past_old, clear_above, word_checks, order_of_bits};
 
-use crate::{MAX_SITES, OLD_SITES, OLD_WORD_BYTES, Ordering, PLANE_BYTES, WORD_BYTES, plane};
-use outcome::{Refusal, Verdict};
+use crate::{MAX_SITES, OLD_SITES, OLD_WORD_BYTES, PLANE_BYTES, WORD_BYTES, plane};
+use outcome::Refusal;
+use std::cmp::Ordering;
 
 // The two bits of a site.
 #[derive(Clone, Copy)]
@@ -51,22 +52,22 @@ pub fn clear_above(n: usize, word: &[u8]) -> bool
 }
 
 // The checks of a word of n sites: 1, 15, 36, 17.
-pub fn checked(n: usize, word: &[u8]) -> Verdict
-    ensures { outcome_of_verdict result ≡ verdict (word_checks n word.now) }
+pub fn checked(n: usize, word: &[u8]) -> Result<(), Refusal>
+    ensures { outcome_of result ≡ verdict (word_checks n word.now) }
 {
     if MAX_SITES < n {
-        return Verdict::Refused(Refusal::TooManySites);
+        return Err(Refusal::TooManySites);
     }
     if !either_length(word.len()) {
-        return Verdict::Refused(Refusal::WordLength);
+        return Err(Refusal::WordLength);
     }
     if past_old(n, word.len()) {
-        return Verdict::Refused(Refusal::OldWordSites);
+        return Err(Refusal::OldWordSites);
     }
     if clear_above(n, word) {
-        Verdict::Accepted
+        Ok(())
     } else {
-        Verdict::Refused(Refusal::BitAboveSites)
+        Err(Refusal::BitAboveSites)
     }
 }
 
@@ -96,16 +97,14 @@ pub fn compare_bytes(a: &[u8], b: &[u8]) -> Ordering
     ensures order { result ≡ order_of_bits (plane_bits a.now) (plane_bits b.now) }
 {
     let n = plane::shorter(a, b);
-    let mut i = 0;
-    while i < n {
+    for i in 0..n {
         let x = a[i];
         let y = b[i];
         if x != y {
             return plane::compare_byte(x, y);
         }
-        i += 1;
     }
-    Ordering::Same
+    Ordering::Equal
 }
 
 // Copies src over dst.
@@ -113,11 +112,7 @@ pub fn copy(src: &[u8], dst: &mut [u8])
     requires { length src.now ≡ length dst.old }
     ensures { dst.new ≡ src.now }
 {
-    let mut i = 0;
-    while i < src.len() {
-        dst[i] = src[i];
-        i += 1;
-    }
+    dst.copy_from_slice(src);
 }
 
 // The bits of site q.

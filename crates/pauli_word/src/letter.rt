@@ -4,25 +4,18 @@ ghost use Rattle.pauli_word.specs.Word.{letter_of};
 ghost use Rattle.pauli_word.specs.Text.{glyph};
 ghost use Rattle.pauli_word.specs.Calls.{letter_bits};
 
-// What a byte of a text word writes.
-#[derive(Clone, Copy)]
-pub enum LetterBits {
-    // A letter, by its X bit and its Z bit.
-    Bits(bool, bool),
-    // No letter.
-    Other,
-}
+use crate::inner::Site;
 
 // The letter that a byte writes.
-pub fn read(byte: u8) -> LetterBits
+pub fn read(byte: u8) -> Option<Site>
     ensures { result ≡ letter_bits byte }
 {
     match byte {
-        b'I' => LetterBits::Bits(false, false),
-        b'X' => LetterBits::Bits(true, false),
-        b'Y' => LetterBits::Bits(true, true),
-        b'Z' => LetterBits::Bits(false, true),
-        0..=72 | 74..=87 | 91..=255 => LetterBits::Other,
+        b'I' => Some(Site { x: false, z: false }),
+        b'X' => Some(Site { x: true, z: false }),
+        b'Y' => Some(Site { x: true, z: true }),
+        b'Z' => Some(Site { x: false, z: true }),
+        0..=72 | 74..=87 | 91..=255 => None,
     }
 }
 

@@ -3,7 +3,7 @@ ghost use Rattle.std.specs.Prelude.{◌≡◌, false, min, length, get_or};
 ghost use Rattle.pauli_word.specs.Bytes.{low_bits, plane_bits, or_at, clear_from};
 ghost use Rattle.pauli_word.specs.Calls.{order_of_bits};
 
-use crate::Ordering;
+use std::cmp::Ordering;
 
 // Bit q; false past the plane's end.
 pub fn bit_at(plane: &[u8], q: usize) -> bool
@@ -40,10 +40,8 @@ pub fn clear_from(plane: &[u8], n: usize) -> bool
         return true;
     }
     let mut any = plane[first] >> (n % 8);
-    let mut j = first + 1;
-    while j < plane.len() {
+    for j in first + 1..plane.len() {
         any = any | plane[j];
-        j += 1;
     }
     any == 0
 }
@@ -61,8 +59,7 @@ pub fn compare_byte(x: u8, y: u8) -> Ordering
 {
     let mut a = x;
     let mut b = y;
-    let mut k: usize = 0;
-    while k < 8 {
+    for _k in 0..8usize {
         if a % 2 < b % 2 {
             return Ordering::Less;
         }
@@ -71,7 +68,6 @@ pub fn compare_byte(x: u8, y: u8) -> Ordering
         }
         a = a / 2;
         b = b / 2;
-        k += 1;
     }
-    Ordering::Same
+    Ordering::Equal
 }

@@ -2,7 +2,6 @@
 use Rattle.std.specs.Prelude.{ℕ, zero, suc, ◌*◌, Bool, true, false, ◌||◌, not, cond, List, [], ◌∷◌, ◌++◌, map, ltb, leb, eqb, length, take, drop}
 use Rattle.pauli_word.specs.Limits.{max_sites}
 use Rattle.outcome.specs.declared.Refusal.{Refusal}
-use Rattle.outcome.specs.declared.Refusal.TheVariants as Refusal
 use Rattle.outcome.specs.Outcome.{Check, rule}
 use Rattle.action.specs.Lists.{below, every}
 use Rattle.action.specs.Permutation.{Generator, target, exact_order}

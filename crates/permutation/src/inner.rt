@@ -2,35 +2,33 @@
 // a function here owes its `requires`.
 ghost use Rattle.std.specs.Prelude.{◌≡◌, not, [], ℕ, ◌+◌, ◌*◌, ◌≤◌, ◌<◌, length, get_or, take};
 ghost use Rattle.action.specs.Arithmetic.{gcd as gcdOf, lcm as lcmOf};
-ghost use Rattle.outcome.specs.Outcome.{outcome_of_verdict, outcome_of_number, alone};
+ghost use Rattle.outcome.specs.Outcome.{outcome_of, alone};
 ghost use Rattle.pauli_word.specs.Limits.{max_sites};
 ghost use Rattle.permutation.specs.Limits.{max_generators, target_places};
 ghost use Rattle.permutation.specs.Generators.{targets_check, pairs_check, rows_of};
 ghost use Rattle.permutation.specs.Parts.{product_outcome};
 
-use crate::MAX_WIDE;
-use outcome::{Number, Refusal, Verdict};
+use crate::{Lent, MAX_WIDE};
+use outcome::Refusal;
 use pauli_word::MAX_SITES;
 
 // The first target of a generator that is not below the site count, 6, or came before, 7.
-pub fn first_fault(generator: usize, perm: &[u32], sites: usize) -> Verdict
+pub fn first_fault(generator: usize, perm: &[u32], sites: usize) -> Result<(), Refusal>
     requires { sites ≤ max_sites }
-    ensures { outcome_of_verdict result ≡ alone (targets_check sites generator [] perm.now) }
+    ensures { outcome_of result ≡ alone (targets_check sites generator [] perm.now) }
 {
     let mut seen = [0u8; MAX_SITES];
-    let mut q = 0;
-    while q < perm.len() {
-        let t = perm[q] as usize;
+    for target in perm {
+        let t = *target as usize;
         if sites <= t {
-            return Verdict::Refused(Refusal::TargetOutOfRange(generator, t));
+            return Err(Refusal::TargetOutOfRange(generator, t));
         }
         if seen[t] == 1 {
-            return Verdict::Refused(Refusal::DuplicateTarget(generator, t));
+            return Err(Refusal::DuplicateTarget(generator, t));
         }
         seen[t] = 1;
-        q += 1;
     }
-    Verdict::Accepted
+    Ok(())
 }
 
 // Whether stored targets are a permutation of the sites: none at fault in 6 or 7, whichever generator they are of.
@@ -39,9 +37,8 @@ pub fn permutes(perm: &[u16], sites: usize) -> bool
     ensures { (generator : ℕ) → result ≡ not (targets_check sites generator [] perm.now).broken }
 {
     let mut seen = [0u8; MAX_SITES];
-    let mut q = 0;
-    while q < perm.len() {
-        let t = perm[q] as usize;
+    for target in perm {
+        let t = *target as usize;
         if sites <= t {
             return false;
         }
@@ -49,7 +46,6 @@ pub fn permutes(perm: &[u16], sites: usize) -> bool
             return false;
         }
         seen[t] = 1;
-        q += 1;
     }
     true
 }
@@ -60,6 +56,7 @@ pub fn gcd(a: u64, b: u64) -> u64
 {
     let mut x = a;
     let mut y = b;
+    // A while: Euclid's steps are as many as the numbers ask.
     while y != 0 {
         let r = x % y;
         x = y;
@@ -77,19 +74,25 @@ pub fn lcm(a: u64, b: u64) -> u64
 }
 
 // 11: the first two generators, left then right, that differ at some site when they are applied in either order.
-pub fn first_pair(targets: &[u16], generators: usize, sites: usize) -> Verdict
-    requires targets_len { (length targets.now ≡ target_places) × (generators ≤ max_generators) × (sites ≤ max_sites) }
-    requires by_index { (g q : ℕ) → g < generators → q < sites → get_or targets.now (max_sites * g + q) 0 < sites }
-    ensures { outcome_of_verdict result ≡ alone (pairs_check sites 0 (rows_of generators sites targets.now)) }
+pub fn first_pair(group: &Lent<'_>) -> Result<(), Refusal>
+    requires targets_len { (length group.now.targets.now ≡ target_places) × (group.now.generators ≤ max_generators) × (group.now.sites ≤ max_sites) }
+    requires by_index { (g q : ℕ) → g < group.now.generators → q < group.now.sites → get_or group.now.targets.now (max_sites * g + q) 0 < group.now.sites }
+    ensures { outcome_of result ≡ alone (pairs_check group.now.sites 0 (rows_of group.now.generators group.now.sites group.now.targets.now)) }
 {
-    let mut found = Verdict::Accepted;
+    let Lent {
+        targets,
+        generators,
+        sites,
+        ..
+    } = *group;
+    let mut found = Ok(());
     'pairs: for left in 0..generators {
         for right in left + 1..generators {
             for q in 0..sites {
                 let l = targets[MAX_SITES * left + q] as usize;
                 let r = targets[MAX_SITES * right + q] as usize;
                 if targets[MAX_SITES * left + r] != targets[MAX_SITES * right + l] {
-                    found = Verdict::Refused(Refusal::NonCommuting(left, right));
+                    found = Err(Refusal::NonCommuting(left, right));
                     break 'pairs;
                 }
             }
@@ -99,20 +102,18 @@ pub fn first_pair(targets: &[u16], generators: usize, sites: usize) -> Verdict
 }
 
 // The product of the first orders, none of which is 0, or 12.
-pub fn group_order(orders: &[u32], generators: usize) -> Number
+pub fn group_order(orders: &[u32], generators: usize) -> Result<usize, Refusal>
     requires generators_in_bounds { generators ≤ length orders.now }
     requires by_index { (g : ℕ) → g < generators → 0 < get_or orders.now g 0 }
-    ensures { outcome_of_number result ≡ product_outcome (take generators orders.now) }
+    ensures { outcome_of result ≡ product_outcome (take generators orders.now) }
 {
     let mut order: u64 = 1;
-    let mut g = 0;
-    while g < generators {
+    for g in 0..generators {
         let o = orders[g] as u64;
         if MAX_WIDE / o < order {
-            return Number::Refused(Refusal::GroupOrderOverflow);
+            return Err(Refusal::GroupOrderOverflow);
         }
         order = order * o;
-        g += 1;
     }
-    Number::Value(order as usize)
+    Ok(order as usize)
 }

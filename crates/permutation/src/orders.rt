@@ -2,14 +2,14 @@
 ghost use Rattle.std.specs.Prelude.{◌≡◌, ◌⊎◌, ℕ, ◌≤◌, ◌<◌, length, get_or, take};
 ghost use Rattle.action.specs.Lists.{Member};
 ghost use Rattle.action.specs.Permutation.{Permutes, cycle_length};
-ghost use Rattle.outcome.specs.Outcome.{outcome_of_number};
+ghost use Rattle.outcome.specs.Outcome.{outcome_of};
 ghost use Rattle.pauli_word.specs.Limits.{max_sites};
 ghost use Rattle.permutation.specs.Lengths.{Marked, length_marks, marked_within, multiple_outcome};
 ghost use Rattle.permutation.specs.Parts.{exact_outcome};
 
 use crate::inner::lcm;
 use crate::{MAX_DECLARED, MAX_LENGTHS};
-use outcome::{Number, Refusal};
+use outcome::Refusal;
 use pauli_word::MAX_SITES;
 
 // The shortest and the longest of cycle lengths.
@@ -30,6 +30,7 @@ pub fn mark_cycle(perm: &[u16], start: usize, seen: &mut [u8]) -> usize
     seen[start] = 1;
     let mut q = perm[start] as usize;
     let mut steps = 1;
+    // A while: a cycle ends where it began.
     while q != start {
         seen[q] = 1;
         q = perm[q] as usize;
@@ -66,6 +67,7 @@ pub fn cycle_lengths(perm: &[u16], marks: &mut [u8]) -> Span
     let mut longest = 0;
     let mut walked = 0;
     let mut q = 0;
+    // A while: it ends when all sites are walked, mostly before the last one is looked at.
     while walked < perm.len() {
         if seen[q] != 1 {
             let length = mark_cycle(perm, q, &mut seen);
@@ -87,38 +89,34 @@ pub fn strike_equal(marks: &[u8], span: Span, left: &mut [usize]) -> usize
     ensures left { take result left.new ≡ marked_within span.shortest span.longest marks.now }
 {
     let mut count = 0;
-    let mut length = span.shortest;
-    while length <= span.longest {
+    for length in span.shortest..span.longest + 1 {
         if marks[length - 1] == 1 {
             left[count] = length;
             count += 1;
         }
-        length += 1;
     }
     count
 }
 
 // The common multiple of those left, or 9.
-pub fn common_multiple(generator: usize, lengths: &[usize]) -> Number
+pub fn common_multiple(generator: usize, lengths: &[usize]) -> Result<usize, Refusal>
     requires { (l : ℕ) → Member l lengths.now → (0 < l) × (l ≤ max_sites) }
-    ensures { outcome_of_number result ≡ multiple_outcome generator lengths.now }
+    ensures { outcome_of result ≡ multiple_outcome generator lengths.now }
 {
     let mut order: u64 = 1;
-    let mut i = 0;
-    while i < lengths.len() {
-        order = lcm(order, lengths[i] as u64);
+    for length in lengths {
+        order = lcm(order, *length as u64);
         if MAX_DECLARED < order {
-            return Number::Refused(Refusal::PermutationOrderOverflow(generator));
+            return Err(Refusal::PermutationOrderOverflow(generator));
         }
-        i += 1;
     }
-    Number::Value(order as usize)
+    Ok(order as usize)
 }
 
 // The exact order of a generator's permutation, or 9: all cycle lengths, equal ones struck out, the common multiple of those left.
-pub fn exact_order(generator: usize, perm: &[u16]) -> Number
+pub fn exact_order(generator: usize, perm: &[u16]) -> Result<usize, Refusal>
     requires { (Permutes (length perm.now) perm.now) × (length perm.now ≤ max_sites) }
-    ensures { outcome_of_number result ≡ exact_outcome generator perm.now }
+    ensures { outcome_of result ≡ exact_outcome generator perm.now }
 {
     let mut marks = [0u8; MAX_SITES];
     let span = cycle_lengths(perm, &mut marks);

@@ -12,11 +12,10 @@ use borrow.Author.Tests.{eqb-true}
 use Rattle.action.specs.Lists.{every}
 use Rattle.text.specs.Text.{space, before, pieces, is_signed, signed_of}
 use Rattle.text.specs.Parts.{clamped, signed_read}
-use Rattle.text.specs.declared.read.Signed.TheVariants as Signed
+use Rattle.std.specs.Prelude.{Option, Some, None}
 use Rattle.text.proofs.Numbers.{value-signed}
 use Rattle.text.proofs.Pieces.{before_short, pieces_last, pieces-next, pieces-some, parted-pieces}
 use Rattle.text.proofs.Roundtrip.{signed-without}
-use Rattle.phase_file.specs.declared.file_lines.Entry.TheVariants as Entry
 use Rattle.phase_file.specs.File.{two_numbers, is_entry, entries_alone, number_at}
 use Rattle.phase_file.specs.Read.{entry_read}
 
@@ -80,35 +79,37 @@ module _ (line : List ℕ) (k : ℕ) (e : k ≡ length (before space line)) wher
 
 -- ---- a line as it is read
 
-pub other_read : (line : List ℕ) → is_entry line ≡ false → Entry.Other ≡ entry_read line
+pub other_read : (line : List ℕ) → is_entry line ≡ false → None ≡ entry_read line
 other_read line e = sym (rw e)
 
 -- its two parts read
 pub both_read : (line : List ℕ) (k : ℕ) → k ≡ length (before space line) → k < length line → (c s : ℤ)
-    → signed_read (take k line) ≡ Signed.Value c → signed_read (drop (k + 1) line) ≡ Signed.Value s → Entry.Numbers c s ≡ entry_read line
+    → signed_read (take k line) ≡ Some c → signed_read (drop (k + 1) line) ≡ Some s → Some (c, s) ≡ entry_read line
 both_read line k e h c s x y =
     let (f, u) = value-signed (take k line) c x in
     let (g, v) = value-signed (drop (k + 1) line) s y in
     let cosine = u ∙ ap clamped (sym (entry-cosine line k e h f g)) in
     let sine = v ∙ ap clamped (sym (entry-sine line k e h f g)) in
-    ap₂ Entry.Numbers cosine sine ∙ sym (rw (entry-both line k e h f g))
+    ap₂ (λ (a b : ℤ). Some (a, b)) cosine sine ∙ sym (rw (entry-both line k e h f g))
 
 -- and back
-pub read_other : (line : List ℕ) → entry_read line ≡ Entry.Other → is_entry line ≡ false
+pub read_other : (line : List ℕ) → entry_read line ≡ None → is_entry line ≡ false
 read_other line e = go (is_entry line) e
   where
-    go : (b : Bool) → cond b (Entry.Numbers (clamped (number_at 0 line)) (clamped (number_at 1 line))) Entry.Other ≡ Entry.Other → b ≡ false
+    go : (b : Bool) → cond {A = Option (ℤ × ℤ)} b (Some (clamped (number_at 0 line), clamped (number_at 1 line))) None ≡ None → b ≡ false
     go true f = let no : ◌≡◌ {A = ℕ} 0 1 = cc in absurd (omega arith)
     go false f = refl
 
-pub read_numbers : (line : List ℕ) (c s : ℤ) → entry_read line ≡ Entry.Numbers c s
+pub read_numbers : (line : List ℕ) (c s : ℤ) → entry_read line ≡ Some (c, s)
     → (is_entry line ≡ true) × (c ≡ clamped (number_at 0 line)) × (s ≡ clamped (number_at 1 line))
 read_numbers line c s e = go (is_entry line) refl e
   where
     go : (b : Bool) → is_entry line ≡ b
-        → cond b (Entry.Numbers (clamped (number_at 0 line)) (clamped (number_at 1 line))) Entry.Other ≡ Entry.Numbers c s
+        → cond {A = Option (ℤ × ℤ)} b (Some (clamped (number_at 0 line), clamped (number_at 1 line))) None ≡ Some (c, s)
         → (is_entry line ≡ true) × (c ≡ clamped (number_at 0 line)) × (s ≡ clamped (number_at 1 line))
-    go true d f = (d, cc, cc)
+    go true d f =
+        let same : ◌≡◌ {A = ℤ × ℤ} (c, s) (clamped (number_at 0 line), clamped (number_at 1 line)) = cc in
+        (d, ap (λ p. p.0) same, ap (λ p. p.1) same)
     go false d f = let no : ◌≡◌ {A = ℕ} 0 1 = cc in absurd (omega arith)
 
 -- ---- the two fields of an entry

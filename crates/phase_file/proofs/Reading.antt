@@ -19,7 +19,7 @@ use Rattle.action.proofs.Below.{map-below-of}
 use Rattle.text.specs.Text.{line_end, before, pieces}
 use Rattle.text.specs.Parts.{clamped}
 use Rattle.text.specs.Names.{names_read}
-use Rattle.text.specs.declared.names.Names.TheVariants as Names
+use Rattle.std.specs.Prelude.{None}
 use Rattle.text.proofs.Pieces.{before_short, pieces_last, pieces-next, pieces-some}
 use Rattle.text.proofs.Lines.{after_line, Ended, ended-pieces, names-other}
 use Rattle.phases.specs.Rules.{turn}
@@ -163,7 +163,7 @@ module _ {text : List ℕ} {j at : ℕ} {cosines sines : List ℤ} (now : Readin
 
 -- ---- a file: its line of names, and then its lines of numbers
 
-pub file_other : (file : List ℕ) → names_read column_names file ≡ Names.Other → false ≡ is_file (pieces line_end file)
+pub file_other : (file : List ℕ) → names_read column_names file ≡ None → false ≡ is_file (pieces line_end file)
 unfolding is_file
 file_other file e = go (names-other column_names file e)
   where

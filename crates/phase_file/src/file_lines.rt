@@ -5,33 +5,19 @@ ghost use Rattle.phases.specs.Rules.{turn};
 ghost use Rattle.phase_file.specs.File.{entries_alone, is_file};
 ghost use Rattle.phase_file.specs.Read.{entry_read, column_read};
 
-use text::names::Names;
-use text::read::Signed;
 use text::{names, read};
 
-// A line read as an entry.
-#[derive(Clone, Copy)]
-pub enum Entry {
-    // The cosine and the sine.
-    Numbers(i64, i64),
-    Other,
-}
-
-// A line of two numbers, parted by one space.
-pub fn read_entry(line: &[u8]) -> Entry
+// A line of two numbers, parted by one space: the cosine and the sine.
+pub fn read_entry(line: &[u8]) -> Option<(i64, i64)>
     ensures { result ≡ entry_read line.now }
 {
     let k = read::find(line, b' ');
     if k == line.len() {
-        return Entry::Other;
+        return None;
     }
-    let Signed::Value(cosine) = read::read_signed(&line[0..k]) else {
-        return Entry::Other;
-    };
-    let Signed::Value(sine) = read::read_signed(&line[k + 1..]) else {
-        return Entry::Other;
-    };
-    Entry::Numbers(cosine, sine)
+    let cosine = read::read_signed(&line[0..k])?;
+    let sine = read::read_signed(&line[k + 1..])?;
+    Some((cosine, sine))
 }
 
 // Reads a line of two numbers for each place of two lists; whether the text is so many lines and nothing after them.
@@ -42,19 +28,17 @@ pub fn read_lines(text: &[u8], cosines: &mut [i64], sines: &mut [i64]) -> bool
     ensures sines { result ≡ true → sines.new ≡ column_read 1 (pieces line_end text.now) }
 {
     let mut at = 0;
-    let mut j = 0;
-    while j < cosines.len() {
+    for j in 0..cosines.len() {
         let end = at + read::find(&text[at..], 10);
         if end == text.len() {
             return false;
         }
-        let Entry::Numbers(cosine, sine) = read_entry(&text[at..end]) else {
+        let Some((cosine, sine)) = read_entry(&text[at..end]) else {
             return false;
         };
         cosines[j] = cosine;
         sines[j] = sine;
         at = end + 1;
-        j += 1;
     }
     at == text.len()
 }
@@ -66,7 +50,7 @@ pub fn read_file(file: &[u8], cosines: &mut [i64], sines: &mut [i64]) -> bool
     ensures cosines { result ≡ true → cosines.new ≡ column_read 0 (drop 1 (pieces line_end file.now)) }
     ensures sines { result ≡ true → sines.new ≡ column_read 1 (drop 1 (pieces line_end file.now)) }
 {
-    let Names::End(k) = names::names_end(b"cos sin", file) else {
+    let Some(k) = names::names_end(b"cos sin", file) else {
         return false;
     };
     read_lines(&file[k + 1..], cosines, sines)

@@ -30,10 +30,8 @@ fn print_front<W: Write>(output: &mut W, input: &[u8], read: usize) -> Result<()
 }
 
 fn print_answer<W: Write>(output: &mut W, file: &[u8]) -> Result<()> {
-    let read = phase_file::read_phase_table(file);
-    let verdict = read.answer;
     let mut line = [0u8; MAX_LINE];
-    let length = answer::write_answer(verdict, &mut line);
+    let length = answer::write_answer(phase_file::read_phase_table(file), &mut line);
     write(output, &line, length)
 }
 

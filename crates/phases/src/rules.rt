@@ -10,12 +10,10 @@ pub fn range_kept(cosines: &[i64], sines: &[i64]) -> bool
     requires { (length cosines.now ≡ turn) × (length sines.now ≡ turn) }
     ensures { result ≡ each_below (entry_in_range (table_of cosines.now sines.now)) turn }
 {
-    let mut j = 0;
-    while j < PHASES {
+    for j in 0..PHASES {
         if !entries::range_at(cosines, sines, j) {
             return false;
         }
-        j += 1;
     }
     true
 }
@@ -26,12 +24,10 @@ pub fn turned_kept(cosines: &[i64], sines: &[i64]) -> bool
     requires phase_range { PhaseRange (table_of cosines.now sines.now) }
     ensures { result ≡ each_below (turned_right (table_of cosines.now sines.now)) turn }
 {
-    let mut j = 0;
-    while j < PHASES {
+    for j in 0..PHASES {
         if !entries::turned_at(cosines, sines, j) {
             return false;
         }
-        j += 1;
     }
     true
 }
@@ -41,12 +37,10 @@ pub fn order_kept(cosines: &[i64], sines: &[i64]) -> bool
     requires { (length cosines.now ≡ turn) × (length sines.now ≡ turn) }
     ensures { result ≡ each_below (order_right (table_of cosines.now sines.now)) quarter }
 {
-    let mut j = 0;
-    while j < QUARTER {
+    for j in 0..QUARTER {
         if !entries::order_at(cosines, sines, j) {
             return false;
         }
-        j += 1;
     }
     true
 }
@@ -57,12 +51,10 @@ pub fn product_kept(cosines: &[i64], sines: &[i64]) -> bool
     requires phase_range { PhaseRange (table_of cosines.now sines.now) }
     ensures { result ≡ each_below (product_right (table_of cosines.now sines.now)) turn }
 {
-    let mut j = 0;
-    while j < PHASES {
+    for j in 0..PHASES {
         if !entries::product_at(cosines, sines, j) {
             return false;
         }
-        j += 1;
     }
     true
 }
@@ -73,12 +65,10 @@ pub fn norm_kept(cosines: &[i64], sines: &[i64]) -> bool
     requires phase_range { PhaseRange (table_of cosines.now sines.now) }
     ensures { result ≡ each_below (norm_right (table_of cosines.now sines.now)) turn }
 {
-    let mut j = 0;
-    while j < PHASES {
+    for j in 0..PHASES {
         if !entries::norm_at(cosines, sines, j) {
             return false;
         }
-        j += 1;
     }
     true
 }

@@ -22,7 +22,8 @@ use Rattle.phases.specs.Rules.{turn, unit, InRange, cosine, sine, passes}
 use Rattle.phases.proofs.Tests.{passes_range}
 use Rattle.projection.specs.Projection.{kept_rows, dropped_rows, projected}
 use Rattle.projection.proofs.Projected.{counts-add}
-use Rattle.project.specs.Calls.{project_checks, input_rows, projected_sum, project_outcome, counts_of, words_after, cosines_after, sines_after}
+use Rattle.project.specs.declared.Projection.{Projection}
+use Rattle.project.specs.Calls.{project_checks, input_rows, projected_sum, project_outcome, projection_of, words_after, cosines_after, sines_after}
 use Rattle.project.specs.Rows.{PhaseLists}
 use Rattle.project.proofs.TurnedRows.{input-length}
 
@@ -67,13 +68,16 @@ module _ (t : PhaseTable) (g : Group) (ks : List ℤ) (words : List ℕ) (cs : L
         (call-answers (project_checks t g ks words cs a b c) (answer (projected_sum t g ks (input_rows g.sites (rows_in_full (length cs) words) cs))) pass)
 
     -- the answer, by the rows that are kept
+    abbrev pub by_counts : ℕ → ℕ → Projection
+    by_counts kept dropped = record { kept = kept; dropped = dropped }
+
     pub answered-counts : {kept : ℕ} → kept ≡ length (kept_rows (generators_of g) ks rows)
-        → answer (kept, length cs - kept) ≡ on_answer counts_of (project_outcome t g ks words cs a b c)
+        → answer (by_counts kept (length cs - kept)) ≡ on_answer projection_of (project_outcome t g ks words cs a b c)
     unfolding projected_sum
     answered-counts {kept} e =
         let left : length cs - kept ≡ length (dropped_rows (generators_of g) ks rows) =
         omega (arith, counts-add (generators_of g) ks rows, input-length g.sites (in_full_by size (length cs) words) cs) in
-        rw (e, rw e at left) (sym (ap (on_answer counts_of) project-answers))
+        rw (e, rw e at left) (sym (ap (on_answer projection_of) project-answers))
 
     -- the lists
     pub answered-words : {out : List ℕ} (was : List ℕ) → out ≡ words_filled (length cs) (map (renamed bytes_of) (projected t.cosines t.sines (generators_of g) ks rows))

@@ -19,7 +19,6 @@ use Rattle.phases.specs.Rules.{turn, in_range}
 use Rattle.phases.specs.Checks.{broken_table}
 use Rattle.projection.specs.Projection.{Parts, kept_rows, dropped_rows, projected}
 use Rattle.project.specs.declared.Projection.{Projection}
-use Rattle.project.specs.declared.Projection.TheVariants as Projection
 
 -- coefficients lie in -maxCoefficient .. max_coefficient
 abbrev pub max_coefficient : ℕ
@@ -66,9 +65,9 @@ project_outcome t g ks words cs leasts cosines sines =
 
 -- ---- the answer, and the output lists afterwards: as they were on a refusal; else the rows of the table, and zeros after them, k in all
 
-abbrev pub outcome_of_projection : Projection → Outcome (ℕ × ℕ)
-outcome_of_projection (Projection.Rows kept dropped) = answer (kept, dropped)
-outcome_of_projection (Projection.Refused why) = refusal_of why
+-- the counts as the call hands them back
+abbrev pub projection_of : ProjectedSum → Projection
+projection_of s = record { kept = s.kept; dropped = s.dropped }
 
 abbrev pub counts_of : ProjectedSum → ℕ × ℕ
 counts_of s = (s.kept, s.dropped)

@@ -13,11 +13,7 @@ use row_lists::MAX_ROWS;
 pub fn clear(list: &mut [i64])
     ensures { list.new ≡ replicate (length list.old) (pos 0) }
 {
-    let mut i = 0;
-    while i < list.len() {
-        list[i] = 0;
-        i += 1;
-    }
+    list.fill(0);
 }
 
 // Adds the first `rows` parts in their order, each at its place, to zeros. A sum of as many parts as there may be stays inside 64 bits.
@@ -31,11 +27,9 @@ pub fn add_parts(parts: &[i64], rows: usize, places: &[u16], sums: &mut [i64])
     requires by_index_2 { (i : ℕ) → i < rows → InRange max_part (get_or parts.now i (pos 0)) }
     ensures { sums.new ≡ place_values whole_sums (length sums.old) (placed (pos 0) places.now parts.now rows) }
 {
-    let mut i = 0;
-    while i < rows {
+    for i in 0..rows {
         let at = places[i] as usize;
         sums[at] = sums[at] + parts[i];
-        i += 1;
     }
 }
 

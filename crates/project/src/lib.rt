@@ -6,26 +6,25 @@
 
 mod checks;
 mod folds;
-pub mod lent;
 mod rows;
 
 ghost use Rattle.std.specs.Prelude.{◌≡◌, length};
-ghost use Rattle.outcome.specs.Outcome.{on_answer};
-ghost use Rattle.project.specs.Calls.{project_outcome, outcome_of_projection, counts_of, words_after, cosines_after, sines_after};
+ghost use Rattle.outcome.specs.Outcome.{outcome_of, on_answer};
+ghost use Rattle.group.specs.Value.{group_lent};
+ghost use Rattle.project.specs.Calls.{project_outcome, projection_of, words_after, cosines_after, sines_after};
 
-use group::Group;
 use outcome::Refusal;
+use permutation::Lent;
 use phases::PhaseTable;
 
 // Coefficients lie in -MAX_COEFFICIENT .. MAX_COEFFICIENT.
 pub const MAX_COEFFICIENT: i64 = 1048576;
 
-// What projecting a sum comes to.
+// What projecting a sum comes to: how many rows have a kept orbit, and how many a dropped one.
 #[derive(Clone, Copy)]
-pub enum Projection {
-    // How many rows have a kept orbit, and how many a dropped one.
-    Rows(usize, usize),
-    Refused(Refusal),
+pub struct Projection {
+    pub kept: usize,
+    pub dropped: usize,
 }
 
 // Projects a sum onto the sector of a mode list, by a phase table: the constant one (`phases::phase_table`) or any that passes (`phases::passes`). Row
@@ -36,30 +35,43 @@ pub enum Projection {
 // how many dropped. Each word's orbit is walked once, and the table is tested once a call.
 pub fn project_pauli_sum(
     table: PhaseTable,
-    group: Group,
+    group: &Lent<'_>,
     modes: &[i32],
     words: &[u8],
     coefficients: &[i64],
     representatives: &mut [u8],
     cosines: &mut [i64],
     sines: &mut [i64],
-) -> Projection
-    ensures answer { outcome_of_projection result ≡ on_answer counts_of (project_outcome table group modes.now words.now coefficients.now (length representatives.old) (length cosines.old) (length sines.old)) }
-    ensures representatives { representatives.new ≡ words_after representatives.old (length coefficients.now) (project_outcome table group modes.now words.now coefficients.now (length representatives.old) (length cosines.old) (length sines.old)) }
-    ensures cosines { cosines.new ≡ cosines_after cosines.old (length coefficients.now) (project_outcome table group modes.now words.now coefficients.now (length representatives.old) (length cosines.old) (length sines.old)) }
-    ensures sines { sines.new ≡ sines_after sines.old (length coefficients.now) (project_outcome table group modes.now words.now coefficients.now (length representatives.old) (length cosines.old) (length sines.old)) }
+) -> Result<Projection, Refusal>
+    ensures answer { outcome_of result ≡ on_answer projection_of (project_outcome table (group_lent group.now) modes.now words.now coefficients.now (length representatives.old) (length cosines.old) (length sines.old)) }
+    ensures representatives { representatives.new ≡ words_after representatives.old (length coefficients.now) (project_outcome table (group_lent group.now) modes.now words.now coefficients.now (length representatives.old) (length cosines.old) (length sines.old)) }
+    ensures cosines { cosines.new ≡ cosines_after cosines.old (length coefficients.now) (project_outcome table (group_lent group.now) modes.now words.now coefficients.now (length representatives.old) (length cosines.old) (length sines.old)) }
+    ensures sines { sines.new ≡ sines_after sines.old (length coefficients.now) (project_outcome table (group_lent group.now) modes.now words.now coefficients.now (length representatives.old) (length cosines.old) (length sines.old)) }
 {
-    lent::project_pauli_sum(
+    checks::projection_checked(
         table,
-        &group.targets,
-        &group.orders,
-        group.generators,
-        group.sites,
+        group,
         modes,
         words,
+        coefficients,
+        representatives.len(),
+        cosines.len(),
+        sines.len(),
+    )?;
+    let size = row_lists::checks::row_size(words.len(), coefficients.len());
+    let kept = rows::project(
+        table,
+        group,
+        modes,
+        words,
+        size,
         coefficients,
         representatives,
         cosines,
         sines,
-    )
+    );
+    Ok(Projection {
+        kept,
+        dropped: coefficients.len() - kept,
+    })
 }

@@ -3,7 +3,7 @@ ghost use Rattle.std.specs.Prelude.{◌≡◌, cond, map, ◌+◌, ◌*◌, ◌�
 ghost use Rattle.pauli_word.specs.Limits.{word_length};
 ghost use Rattle.pauli_word.specs.Bytes.{AcceptedWord, EitherLength, letters_in, bytes_of};
 ghost use Rattle.action.specs.Sector.{keeps};
-ghost use Rattle.elements.specs.HeldGroup.{generators_in};
+ghost use Rattle.elements.specs.HeldGroup.{generators_held};
 ghost use Rattle.keyed.specs.Keyed.{renamed};
 ghost use Rattle.row_lists.specs.Rows.{max_rows, with_row, in_full_by};
 ghost use Rattle.row_words.specs.Words.{words_filled, filled};
@@ -15,6 +15,7 @@ ghost use Rattle.project.specs.Rows.{PhaseLists, Sector, WholeRows, turned_as, t
 use crate::folds;
 use decisions::placement::Placement;
 use pauli_word::WORD_BYTES;
+use permutation::Lent;
 use phases::{PHASES, PhaseTable};
 use row_lists::MAX_ROWS;
 
@@ -29,24 +30,21 @@ pub struct Turned {
 
 // Turns a row of an accepted word.
 pub fn turn_row(
-    targets: &[u16],
-    orders: &[u32],
-    generators: usize,
-    sites: usize,
+    group: &Lent<'_>,
     modes: &[i32],
     word: &[u8],
     coefficient: i64,
     cosines: &[i64],
     sines: &[i64],
 ) -> Turned
-    requires sector { Sector generators sites targets.now orders.now modes.now }
-    requires accepted_word { AcceptedWord sites word.now }
+    requires sector { Sector group.now.generators group.now.sites group.now.targets.now group.now.orders.now modes.now }
+    requires accepted_word { AcceptedWord group.now.sites word.now }
     requires in_range { InRange max_coefficient coefficient }
     requires phase_lists { PhaseLists cosines.now sines.now }
-    ensures kept { result.kept ≡ keeps (generators_in generators sites targets.now orders.now) modes.now (letters_in sites word.now) }
-    ensures row { turned_as result cosines.now sines.now (generators_in generators sites targets.now orders.now) modes.now (letters_in sites word.now, coefficient) }
+    ensures kept { result.kept ≡ keeps (generators_held group.now) modes.now (letters_in group.now.sites word.now) }
+    ensures row { turned_as result cosines.now sines.now (generators_held group.now) modes.now (letters_in group.now.sites word.now, coefficient) }
 {
-    let placed = sector_rows::word::placement_of(targets, orders, generators, sites, word, modes);
+    let placed = sector_rows::word::placement_of(group, word, modes);
     let least = placed.word;
     let answer = placed.answer;
     let Placement::Kept(index, _) = answer else {
@@ -57,10 +55,8 @@ pub fn turn_row(
             sine: 0,
         };
     };
-    let modulus = elements::index::phase_modulus(targets, orders, generators, sites);
-    let numerator = decisions::phase::numerator_at(
-        targets, orders, generators, sites, modulus, modes, index,
-    );
+    let modulus = elements::index::phase_modulus(group);
+    let numerator = decisions::phase::numerator_at(group, modulus, modes, index);
     let entry = numerator * PHASES / modulus;
     Turned {
         kept: true,
@@ -101,10 +97,7 @@ pub fn keep_row(
 // Turns the rows in their order. The representative of the next row of a kept orbit goes into the next row of the list, and what it adds into the
 // next places of the two others. How many rows are kept.
 pub fn turn_rows(
-    targets: &[u16],
-    orders: &[u32],
-    generators: usize,
-    sites: usize,
+    group: &Lent<'_>,
     modes: &[i32],
     words: &[u8],
     size: usize,
@@ -115,32 +108,20 @@ pub fn turn_rows(
     xs: &mut [i64],
     ys: &mut [i64],
 ) -> usize
-    requires sector { Sector generators sites targets.now orders.now modes.now }
+    requires sector { Sector group.now.generators group.now.sites group.now.targets.now group.now.orders.now modes.now }
     requires either_length { EitherLength size × (length words.now ≡ size * length coefficients.now) }
-    requires whole_rows { WholeRows sites (in_full_by size (length coefficients.now) words.now) coefficients.now }
+    requires whole_rows { WholeRows group.now.sites (in_full_by size (length coefficients.now) words.now) coefficients.now }
     requires phase_lists { PhaseLists cosines.now sines.now }
     requires representatives_len { length representatives.old ≡ word_length * length coefficients.now }
     requires xs_len { (length xs.old ≡ max_rows) × (length ys.old ≡ max_rows) }
-    ensures kept { result ≡ length (turned_rows cosines.now sines.now (generators_in generators sites targets.now orders.now) modes.now (input_rows sites (in_full_by size (length coefficients.now) words.now) coefficients.now)) }
-    ensures held { TurnedRows (turned_rows cosines.now sines.now (generators_in generators sites targets.now orders.now) modes.now (input_rows sites (in_full_by size (length coefficients.now) words.now) coefficients.now)) representatives.new xs.new ys.new }
+    ensures kept { result ≡ length (turned_rows cosines.now sines.now (generators_held group.now) modes.now (input_rows group.now.sites (in_full_by size (length coefficients.now) words.now) coefficients.now)) }
+    ensures held { TurnedRows (turned_rows cosines.now sines.now (generators_held group.now) modes.now (input_rows group.now.sites (in_full_by size (length coefficients.now) words.now) coefficients.now)) representatives.new xs.new ys.new }
 {
     let mut kept = 0;
-    let mut i = 0;
-    while i < coefficients.len() {
+    for i in 0..coefficients.len() {
         let full = row_lists::checks::row_in_full(words, size, i);
-        let row = turn_row(
-            targets,
-            orders,
-            generators,
-            sites,
-            modes,
-            &full,
-            coefficients[i],
-            cosines,
-            sines,
-        );
+        let row = turn_row(group, modes, &full, coefficients[i], cosines, sines);
         kept = keep_row(row, kept, representatives, xs, ys);
-        i += 1;
     }
     kept
 }
@@ -148,10 +129,7 @@ pub fn turn_rows(
 // Projects the rows by a table, into output lists of as many rows. How many rows are kept.
 pub fn project(
     table: PhaseTable,
-    targets: &[u16],
-    orders: &[u32],
-    generators: usize,
-    sites: usize,
+    group: &Lent<'_>,
     modes: &[i32],
     words: &[u8],
     size: usize,
@@ -160,26 +138,23 @@ pub fn project(
     cosines: &mut [i64],
     sines: &mut [i64],
 ) -> usize
-    requires sector { Sector generators sites targets.now orders.now modes.now }
+    requires sector { Sector group.now.generators group.now.sites group.now.targets.now group.now.orders.now modes.now }
     requires either_length { EitherLength size × (length words.now ≡ size * length coefficients.now) }
-    requires whole_rows { WholeRows sites (in_full_by size (length coefficients.now) words.now) coefficients.now }
+    requires whole_rows { WholeRows group.now.sites (in_full_by size (length coefficients.now) words.now) coefficients.now }
     requires phase_lists { PhaseLists table.cosines table.sines }
     requires representatives_len { length representatives.old ≡ word_length * length coefficients.now }
     requires cosines_len { (length cosines.old ≡ length coefficients.now) × (length sines.old ≡ length coefficients.now) }
-    ensures kept { result ≡ length (kept_rows (generators_in generators sites targets.now orders.now) modes.now (input_rows sites (in_full_by size (length coefficients.now) words.now) coefficients.now)) }
-    ensures representatives { representatives.new ≡ words_filled (length coefficients.now) (map (renamed bytes_of) (projected table.cosines table.sines (generators_in generators sites targets.now orders.now) modes.now (input_rows sites (in_full_by size (length coefficients.now) words.now) coefficients.now))) }
-    ensures cosines { cosines.new ≡ filled (pos 0) (λ row. row.1.0) (length coefficients.now) (projected table.cosines table.sines (generators_in generators sites targets.now orders.now) modes.now (input_rows sites (in_full_by size (length coefficients.now) words.now) coefficients.now)) }
-    ensures sines { sines.new ≡ filled (pos 0) (λ row. row.1.1) (length coefficients.now) (projected table.cosines table.sines (generators_in generators sites targets.now orders.now) modes.now (input_rows sites (in_full_by size (length coefficients.now) words.now) coefficients.now)) }
+    ensures kept { result ≡ length (kept_rows (generators_held group.now) modes.now (input_rows group.now.sites (in_full_by size (length coefficients.now) words.now) coefficients.now)) }
+    ensures representatives { representatives.new ≡ words_filled (length coefficients.now) (map (renamed bytes_of) (projected table.cosines table.sines (generators_held group.now) modes.now (input_rows group.now.sites (in_full_by size (length coefficients.now) words.now) coefficients.now))) }
+    ensures cosines { cosines.new ≡ filled (pos 0) (λ row. row.1.0) (length coefficients.now) (projected table.cosines table.sines (generators_held group.now) modes.now (input_rows group.now.sites (in_full_by size (length coefficients.now) words.now) coefficients.now)) }
+    ensures sines { sines.new ≡ filled (pos 0) (λ row. row.1.1) (length coefficients.now) (projected table.cosines table.sines (generators_held group.now) modes.now (input_rows group.now.sites (in_full_by size (length coefficients.now) words.now) coefficients.now)) }
 {
     let table_cosines = table.cosines;
     let table_sines = table.sines;
     let mut xs = [0i64; MAX_ROWS];
     let mut ys = [0i64; MAX_ROWS];
     let kept = turn_rows(
-        targets,
-        orders,
-        generators,
-        sites,
+        group,
         modes,
         words,
         size,

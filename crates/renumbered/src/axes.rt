@@ -1,12 +1,12 @@
 // The rotations that shift along the axes of a grid with given orders as sides.
-ghost use Rattle.std.specs.Prelude.{◌≡◌, ◌+◌, ◌*◌, ◌≤◌, ◌<◌, length};
+ghost use Rattle.std.specs.Prelude.{◌+◌, ◌*◌, ◌≤◌, ◌<◌};
 ghost use Rattle.pauli_word.specs.Limits.{max_sites};
-ghost use Rattle.permutation.specs.Limits.{max_generators};
 ghost use Rattle.action.specs.Index.{order_of};
-ghost use Rattle.elements.specs.HeldGroup.{generators_in, Tables};
-ghost use Rattle.grid.specs.Grid.{Axis, Axes};
+ghost use Rattle.elements.specs.HeldGroup.{HoldsGroup, generators_held};
+ghost use Rattle.grid.specs.Grid.{Axis, OnAxes};
 
-use rotation::shape::Shape;
+use permutation::Lent;
+use rotation::shape::{Shape, Shapes};
 
 // The rotation that shifts along an axis whose places are this far apart.
 fn axis_shape(place: usize, order: usize) -> Shape
@@ -27,27 +27,24 @@ fn axis_shape(place: usize, order: usize) -> Shape
 
 // The strides and the rests of a grid's generators: each shifts by the product of the orders before its own, inside blocks of that times its own order. One
 // of order 1 is the rotation by 0 inside blocks of one site.
-pub fn fill_axes(
-    targets: &[u16],
-    orders: &[u32],
-    generators: usize,
-    sites: usize,
-    strides: &mut [usize],
-    rests: &mut [usize],
-)
-    requires tables { Tables generators sites targets.now orders.now }
-    requires orders_bound { order_of (generators_in generators sites targets.now orders.now) ≤ max_sites }
-    requires strides_len { (length strides.old ≡ max_generators) × (length rests.old ≡ max_generators) }
-    ensures { Axes generators orders.now strides.new rests.new }
+pub fn axis_shapes(group: &Lent<'_>) -> Shapes
+    requires tables { HoldsGroup group.now }
+    requires orders_bound { order_of (generators_held group.now) ≤ max_sites }
+    ensures { OnAxes group.now result }
 {
+    let Lent {
+        orders,
+        generators,
+        ..
+    } = *group;
+    let mut shapes = Shapes::new();
     let mut place: usize = 1;
-    let mut g = 0;
-    while g < generators {
+    for g in 0..generators {
         let o = orders[g] as usize;
         let shape = axis_shape(place, o);
-        strides[g] = shape.stride;
-        rests[g] = shape.rest;
+        shapes.strides[g] = shape.stride;
+        shapes.rests[g] = shape.rest;
         place = place * o;
-        g += 1;
     }
+    shapes
 }

@@ -20,9 +20,7 @@ pub fn gather_word(plane: &[u64], table: &[u16], start: usize, count: usize) -> 
     ensures { (k : ℕ) → k < word_bits → bit_at result k ≡ cond (ltb k count) (bit_of plane.now (at table.now (start + k))) false }
 {
     let mut word: u64 = 0;
-    let mut k = count;
-    while 0 < k {
-        k -= 1;
+    for k in (0..count).rev() {
         word = (word << 1) | bit_of(plane, table[start + k] as usize);
     }
     word
@@ -35,11 +33,9 @@ pub fn gather(plane: &[u64], table: &[u16], sites: usize, out: &mut [u64])
     ensures bits { (a : ℕ) → a < sites → bit_of out.new a ≡ bit_of plane.now (at table.now a) }
     ensures clear { Clear sites out.new }
 {
-    let mut i = 0;
-    while i < out.len() {
+    for i in 0..out.len() {
         let start = packed::shift::smaller(WORD_BITS * i, sites);
         let count = packed::shift::smaller(WORD_BITS, sites - start);
         out[i] = gather_word(plane, table, start, count);
-        i += 1;
     }
 }

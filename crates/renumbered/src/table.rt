@@ -4,11 +4,12 @@ ghost use Rattle.std.specs.Prelude.{◌≡◌, true, ℕ, ◌+◌, ◌*◌, ◌�
 ghost use Rattle.pauli_word.specs.Limits.{max_sites};
 ghost use Rattle.permutation.specs.Limits.{target_places, max_generators};
 ghost use Rattle.action.specs.Index.{order_of};
-ghost use Rattle.elements.specs.HeldGroup.{generators_in, Tables};
+ghost use Rattle.elements.specs.HeldGroup.{HoldsGroup, generators_held};
 ghost use Rattle.packed.specs.Packed.{rotated};
 ghost use Rattle.renumbered.specs.Renumbered.{at, Renumbered};
 
 use pauli_word::MAX_SITES;
+use permutation::Lent;
 
 // Gives a number to a site, if it is one.
 fn put_number(sites: usize, a: usize, to: u16, site: &mut [u16], place: &mut [u16])
@@ -55,8 +56,7 @@ fn fill_axis(
     requires site_len { (length site.old ≡ max_sites) × (length place.old ≡ max_sites) }
     requires round_bound { start + round ≤ max_sites }
 {
-    let mut h = stride;
-    while h < round {
+    for h in stride..round {
         number_next(
             targets,
             sites,
@@ -66,112 +66,88 @@ fn fill_axis(
             site,
             place,
         );
-        h += 1;
     }
 }
 
 // Numbers one block: `base` and what the indices make of it, from number `start` on.
 fn fill_block(
-    targets: &[u16],
-    orders: &[u32],
-    generators: usize,
-    sites: usize,
+    group: &Lent<'_>,
     order: usize,
     base: usize,
     start: usize,
     site: &mut [u16],
     place: &mut [u16],
 )
-    requires tables { Tables generators sites targets.now orders.now }
-    requires order_value { order ≡ order_of (generators_in generators sites targets.now orders.now) }
+    requires tables { HoldsGroup group.now }
+    requires order_value { order ≡ order_of (generators_held group.now) }
     requires site_len { (length site.old ≡ max_sites) × (length place.old ≡ max_sites) }
     requires order_bound { (start + order ≤ max_sites) × (base < max_sites) }
 {
+    let Lent {
+        targets,
+        orders,
+        generators,
+        sites,
+    } = *group;
     put_number(sites, start, base as u16, site, place);
     let mut stride: usize = 1;
-    let mut g = 0;
-    while g < generators {
+    for g in 0..generators {
         let round = stride * (orders[g] as usize);
         fill_axis(targets, sites, g, start, stride, round, site, place);
         stride = round;
-        g += 1;
     }
 }
 
 // Numbers the block of a site from number `start` on, if the site has no number and there is room; which number is the next.
 fn number_block(
-    targets: &[u16],
-    orders: &[u32],
-    generators: usize,
-    sites: usize,
+    group: &Lent<'_>,
     order: usize,
     q: usize,
     start: usize,
     site: &mut [u16],
     place: &mut [u16],
 ) -> usize
-    requires tables { Tables generators sites targets.now orders.now }
-    requires order_value { order ≡ order_of (generators_in generators sites targets.now orders.now) }
+    requires tables { HoldsGroup group.now }
+    requires order_value { order ≡ order_of (generators_held group.now) }
     requires site_len { (length site.old ≡ max_sites) × (length place.old ≡ max_sites) }
-    requires start_le_sites { (start ≤ sites) × (q < sites) }
-    ensures { result ≤ sites }
+    requires start_le_sites { (start ≤ group.now.sites) × (q < group.now.sites) }
+    ensures { result ≤ group.now.sites }
 {
+    let Lent { sites, .. } = *group;
     if place[q] as usize != sites {
         return start;
     }
     if sites - start < order {
         return start;
     }
-    fill_block(
-        targets, orders, generators, sites, order, q, start, site, place,
-    );
+    fill_block(group, order, q, start, site, place);
     start + order
 }
 
 // Numbers the sites that are marked as having no number.
-fn number_free(
-    targets: &[u16],
-    orders: &[u32],
-    generators: usize,
-    sites: usize,
-    order: usize,
-    site: &mut [u16],
-    place: &mut [u16],
-)
-    requires tables { Tables generators sites targets.now orders.now }
-    requires order_value { order ≡ order_of (generators_in generators sites targets.now orders.now) }
+fn number_free(group: &Lent<'_>, order: usize, site: &mut [u16], place: &mut [u16])
+    requires tables { HoldsGroup group.now }
+    requires order_value { order ≡ order_of (generators_held group.now) }
     requires site_len { (length site.old ≡ max_sites) × (length place.old ≡ max_sites) }
 {
+    let Lent { sites, .. } = *group;
     let mut start: usize = 0;
-    let mut q = 0;
-    while q < sites {
-        start = number_block(
-            targets, orders, generators, sites, order, q, start, site, place,
-        );
-        q += 1;
+    for q in 0..sites {
+        start = number_block(group, order, q, start, site, place);
     }
 }
 
 // Numbers the sites: block after block, each from the first site that has no number yet.
-pub fn number_sites(
-    targets: &[u16],
-    orders: &[u32],
-    generators: usize,
-    sites: usize,
-    order: usize,
-    site: &mut [u16],
-    place: &mut [u16],
-)
-    requires tables { Tables generators sites targets.now orders.now }
-    requires order_value { order ≡ order_of (generators_in generators sites targets.now orders.now) }
+pub fn number_sites(group: &Lent<'_>, order: usize, site: &mut [u16], place: &mut [u16])
+    requires tables { HoldsGroup group.now }
+    requires order_value { order ≡ order_of (generators_held group.now) }
     requires site_len { (length site.old ≡ max_sites) × (length place.old ≡ max_sites) }
 {
-    let mut q = 0;
-    while q < sites {
+    let Lent { sites, .. } = *group;
+    for q in 0..sites {
         place[q] = sites as u16;
-        q += 1;
     }
-    number_free(targets, orders, generators, sites, order, site, place);
+    number_free(group, order, site, place);
 }
 
 // Whether each table undoes the other on so many places.
@@ -181,8 +157,7 @@ pub fn undo_each_other(sites: usize, site: &[u16], place: &[u16]) -> bool
         → (at site.now a < sites) × (at place.now a < sites)
         × (at place.now (at site.now a) ≡ a) × (at site.now (at place.now a) ≡ a) }
 {
-    let mut a = 0;
-    while a < sites {
+    for a in 0..sites {
         let q = site[a] as usize;
         let b = place[a] as usize;
         if sites <= q || sites <= b {
@@ -191,7 +166,6 @@ pub fn undo_each_other(sites: usize, site: &[u16], place: &[u16]) -> bool
         if place[q] as usize != a || site[b] as usize != a {
             return false;
         }
-        a += 1;
     }
     true
 }
@@ -211,46 +185,40 @@ pub fn carries(
     ensures { result ≡ true → (a : ℕ) → a < sites → at site.now (rotated stride block a) ≡ get_or targets.now (max_sites * g + at site.now a) 0 }
 {
     let mut inside: usize = 0;
-    let mut a = 0;
-    while a < sites {
+    for a in 0..sites {
         let next = a - inside + rotation::shape::round(inside + stride, block);
         let q = site[a] as usize;
         if sites <= next || site[next] != targets[MAX_SITES * g + q] {
             return false;
         }
         inside = rotation::shape::round(inside + 1, block);
-        a += 1;
     }
     true
 }
 
 // Whether a table makes a grid of the group.
-pub fn is_renumbered(
-    targets: &[u16],
-    orders: &[u32],
-    generators: usize,
-    sites: usize,
-    order: usize,
-    site: &[u16],
-    place: &[u16],
-) -> bool
-    requires tables { Tables generators sites targets.now orders.now }
-    requires order_value { order ≡ order_of (generators_in generators sites targets.now orders.now) }
+pub fn is_renumbered(group: &Lent<'_>, order: usize, site: &[u16], place: &[u16]) -> bool
+    requires tables { HoldsGroup group.now }
+    requires order_value { order ≡ order_of (generators_held group.now) }
     requires site_len { (length site.now ≡ max_sites) × (length place.now ≡ max_sites) × (order ≤ max_sites) }
-    ensures { result ≡ true → Renumbered sites (generators_in generators sites targets.now orders.now) site.now place.now }
+    ensures { result ≡ true → Renumbered group.now.sites (generators_held group.now) site.now place.now }
 {
+    let Lent {
+        targets,
+        orders,
+        generators,
+        sites,
+    } = *group;
     if sites % order != 0 || !undo_each_other(sites, site, place) {
         return false;
     }
     let mut stride: usize = 1;
-    let mut g = 0;
-    while g < generators {
+    for g in 0..generators {
         let block = stride * (orders[g] as usize);
         if !carries(targets, sites, g, stride, block, site) {
             return false;
         }
         stride = block;
-        g += 1;
     }
     true
 }

@@ -1,4 +1,6 @@
 -- Words in planes of machine words: moved by a rotation plane by plane, compared plane by plane, and the masks of one generator after the other.
+use Rattle.std.specs.declared.cmp.Ordering.{Ordering}
+use Rattle.std.specs.declared.cmp.Ordering.TheVariants.{Less, Equal, Greater}
 use Prim.Native.Nat.{ℕ, ◌+◌, ◌-◌, ◌*◌, ◌≤◌, ◌<◌}
 use mathlib.Core.Path.{◌≡◌, sym, ap, ◌∙◌}
 use mathlib.Core.Logic.{◌⊎◌, inl, inr, ⊎_elim}
@@ -10,8 +12,6 @@ use lib.ListN.{length, get_or, take, drop, length-drop, take-append-drop}
 use lib.Seq.{take_at, drop_at, length-take-le, take-append-le, drop-append-le}
 use borrow.Author.Count.{below_more}
 use borrow.Rule.Slice.PartMut.{same_len_mid}
-use Rattle.pauli_word.specs.declared.Ordering.{Ordering}
-use Rattle.pauli_word.specs.declared.Ordering.TheVariants.{Less, Same, Greater}
 use Rattle.pauli_word.specs.Calls.{order_of_words, order_of_bits}
 use Rattle.pauli_word.proofs.WordOrder.{or_else_by}
 use Rattle.permutation.specs.Limits.{max_generators}
@@ -57,7 +57,7 @@ clear-less n k f g cg (q, h, same, ff, gt) =
 clear-compared : (o : Ordering) (n k : ℕ) (f g : ℕ → Bool) → n ≤ k → ((q : ℕ) → n ≤ q → f q ≡ false) → ((q : ℕ) → n ≤ q → g q ≡ false)
     → Compared o k f g → Compared o n f g
 clear-compared Less n k f g h cf cg c = clear-less n k f g cg c
-clear-compared Same n k f g h cf cg c = λ q l. c q (omega arith)
+clear-compared Equal n k f g h cf cg c = λ q l. c q (omega arith)
 clear-compared Greater n k f g h cf cg c = clear-less n k g f cf c
 
 -- the planes of two words, compared one after the other
@@ -70,7 +70,7 @@ module _ {n m : ℕ} {xs zs ys us : List ℕ} (p : Planes n m xs zs) (r : Planes
   -- without Z planes there is nothing to compare
   nothing-compared : (o : Ordering) → length zs ≡ 0 → Compared o (word_bits * length zs) (bit_of zs) (bit_of us) → Compared o n (bit_of zs) (bit_of us)
   nothing-compared Less e (q, h, alike, off, on) = absurd (omega (arith, ap (λ (l : ℕ). word_bits * l) e))
-  nothing-compared Same e c = λ q h. nothing_bit zs e q ∙ sym (nothing_bit us (sym same_z ∙ e) q)
+  nothing-compared Equal e c = λ q h. nothing_bit zs e q ∙ sym (nothing_bit us (sym same_z ∙ e) q)
   nothing-compared Greater e (q, h, alike, off, on) = absurd (omega (arith, ap (λ (l : ℕ). word_bits * l) e))
 
   z-order : (o : Ordering) → Compared o (word_bits * length zs) (bit_of zs) (bit_of us) → order_of_bits (map (bit_of zs) (below n)) (map (bit_of us) (below n)) ≡ o
@@ -88,9 +88,9 @@ module _ {n m : ℕ} {xs zs ys us : List ℕ} (p : Planes n m xs zs) (r : Planes
       ∙ ap (λ (t : Ordering). or_else_by t (order_of_bits (map (bit_of zs) (below n)) (map (bit_of us) (below n)))) (x-order o c)
 
   -- where the X planes are the same, the Z planes decide
-  pub order-by-z : (o : Ordering) → Compared Same (word_bits * length xs) (bit_of xs) (bit_of ys) → Compared o (word_bits * length zs) (bit_of zs) (bit_of us)
+  pub order-by-z : (o : Ordering) → Compared Equal (word_bits * length xs) (bit_of xs) (bit_of ys) → Compared o (word_bits * length zs) (bit_of zs) (bit_of us)
       → order_of_words (letters_at n xs zs) (letters_at n ys us) ≡ o
-  order-by-z o c d = order-by-x Same c ∙ z-order o d
+  order-by-z o c d = order-by-x Equal c ∙ z-order o d
 
 -- ---- masks, one generator after the other
 

@@ -1,5 +1,6 @@
 -- How many of the first i indices reach the least word so far: one where the next entry is less, one more where it is the same, and as many where it
 -- is greater. After the last index they are as many as the indices that fix the word.
+use Rattle.std.specs.declared.cmp.Ordering.TheVariants.{Less, Equal, Greater}
 use Prim.Native.Nat.{ℕ, ◌+◌, ◌≤◌}
 use mathlib.Core.Path.{◌≡◌, refl, sym, ap, ◌∙◌}
 use mathlib.Core.Bool.{Bool, true, false, cond}
@@ -7,7 +8,6 @@ use mathlib.Core.List.{List, [], ◌∷◌}
 use native.Mathlib.Nat.{add-zero}
 use native.Mathlib.Omega.{arith}
 use lib.ListN.{length}
-use Rattle.pauli_word.specs.declared.Ordering.TheVariants.{Less, Same, Greater}
 use Rattle.pauli_word.specs.Word.{Word, same, less}
 use Rattle.pauli_word.specs.Calls.{order_of_words}
 use Rattle.pauli_word.proofs.WordOrder.{same_refl, same_eq}
@@ -81,7 +81,7 @@ module _ (gs : List Generator) (w : Word) (i : ℕ) where
       ∙ count_next (λ j. same (reach gs j w) (least_so_far gs w i)) i
 
   -- an entry that is the same is one more
-  pub ties-same : order_of_words (reach gs i w) (least_so_far gs w i) ≡ Same → ties gs w (i + 1) ≡ ties gs w i + 1
+  pub ties-same : order_of_words (reach gs i w) (least_so_far gs w i) ≡ Equal → ties gs w (i + 1) ≡ ties gs w i + 1
   ties-same e =
       kept (order_not-less (reach gs i w) (least_so_far gs w i) (λ k. let z : ◌≡◌ {A = ℕ} 0 1 = cc in omega arith))
       ∙ rw (order_same (reach gs i w) (least_so_far gs w i) (reach-length gs i w ∙ sym (lead-length gs w i)) e)

@@ -1,5 +1,7 @@
 -- The walk over an orbit by words in planes: the turn as the generator's permutation, and the best word so far with its place and its count, entry by
 -- entry.
+use Rattle.std.specs.declared.cmp.Ordering.{Ordering}
+use Rattle.std.specs.declared.cmp.Ordering.TheVariants.{Less, Equal, Greater}
 use Prim.Native.Nat.{ℕ, ◌+◌, ◌-◌, ◌/◌, ◌%◌, ◌<◌}
 use mathlib.Core.Path.{◌≡◌, refl, sym, ap, ap₂, ◌∙◌}
 use mathlib.Core.Bool.{false}
@@ -7,8 +9,6 @@ use mathlib.Core.List.{List}
 use native.Mathlib.Numerals.{add-one}
 use native.Mathlib.Omega.{arith}
 use lib.ListN.{length, get_or, drop}
-use Rattle.pauli_word.specs.declared.Ordering.{Ordering}
-use Rattle.pauli_word.specs.declared.Ordering.TheVariants.{Less, Same, Greater}
 use Rattle.pauli_word.specs.Word.{Word, less}
 use Rattle.pauli_word.specs.Calls.{order_of_words}
 use Rattle.action.specs.Lists.{from, below}
@@ -52,12 +52,12 @@ module _ {k n : ℕ} {targets orders strides rests : List ℕ} (t : Tables k n t
 -- the letters of the planes that lead are the letters that lead
 led-letters : (n : ℕ) (o : Ordering) (x z xs zs : List ℕ) → letters_at n (led o x xs) (led o z zs) ≡ led o (letters_at n x z) (letters_at n xs zs)
 led-letters n Less x z xs zs = refl
-led-letters n Same x z xs zs = refl
+led-letters n Equal x z xs zs = refl
 led-letters n Greater x z xs zs = refl
 
 led_planes : {n m : ℕ} (o : Ordering) {x z xs zs : List ℕ} → Planes n m x z → Planes n m xs zs → Planes n m (led o x xs) (led o z zs)
 led_planes Less p q = p
-led_planes Same p q = q
+led_planes Equal p q = q
 led_planes Greater p q = q
 
 module _ (gs : List Generator) (w : Word) (i : ℕ) where
@@ -67,20 +67,20 @@ module _ (gs : List Generator) (w : Word) (i : ℕ) where
   -- the least so far after the next entry
   pub lead-word : (o : Ordering) → order_of_words (reach gs i w) (least_so_far gs w i) ≡ o → led o (reach gs i w) (least_so_far gs w i) ≡ least_so_far gs w (i + 1)
   lead-word Less e = sym (lead-taken gs w i (order_less (reach gs i w) (least_so_far gs w i) e))
-  lead-word Same e = sym (lead-kept gs w i (not-less e (λ l. let z : ◌≡◌ {A = ℕ} 0 1 = cc in omega arith)))
+  lead-word Equal e = sym (lead-kept gs w i (not-less e (λ l. let z : ◌≡◌ {A = ℕ} 0 1 = cc in omega arith)))
   lead-word Greater e = sym (lead-kept gs w i (not-less e (λ l. let z : ◌≡◌ {A = ℕ} 0 1 = cc in omega arith)))
 
   -- its first place
   pub lead-index : (o : Ordering) → order_of_words (reach gs i w) (least_so_far gs w i) ≡ o
       → led o i (first_at (least_so_far gs w i) (entries gs w i)) ≡ first_at (least_so_far gs w (i + 1)) (entries gs w (i + 1))
   lead-index Less e = sym (place-taken gs w i (order_less (reach gs i w) (least_so_far gs w i) e))
-  lead-index Same e = sym (place_kept gs w i (not-less e (λ l. let z : ◌≡◌ {A = ℕ} 0 1 = cc in omega arith)))
+  lead-index Equal e = sym (place_kept gs w i (not-less e (λ l. let z : ◌≡◌ {A = ℕ} 0 1 = cc in omega arith)))
   lead-index Greater e = sym (place_kept gs w i (not-less e (λ l. let z : ◌≡◌ {A = ℕ} 0 1 = cc in omega arith)))
 
   -- how many indices reach it
   pub lead-ties : (o : Ordering) → order_of_words (reach gs i w) (least_so_far gs w i) ≡ o → tied o (ties gs w i) ≡ ties gs w (i + 1)
   lead-ties Less e = sym (ties-less gs w i e)
-  lead-ties Same e = sym (ties-same gs w i e)
+  lead-ties Equal e = sym (ties-same gs w i e)
   lead-ties Greater e = sym (ties-greater gs w i e)
 
 -- ---- the walk, entry by entry

@@ -1,7 +1,7 @@
 -- Generators that rotate sites inside blocks of one length, the masks that move words by them, and words in planes of machine words.
+use Rattle.std.specs.declared.cmp.Ordering.{Ordering}
+use Rattle.std.specs.declared.cmp.Ordering.TheVariants.{Less, Equal, Greater}
 use Rattle.std.specs.Prelude.{ℕ, ◌+◌, ◌*◌, ◌%◌, ◌<◌, ◌≤◌, ◌≡◌, ◌⊎◌, false, List, ◌∷◌, map, length, get_or, take, drop}
-use Rattle.pauli_word.specs.declared.Ordering.{Ordering}
-use Rattle.pauli_word.specs.declared.Ordering.TheVariants.{Less, Same, Greater}
 use Rattle.pauli_word.specs.Word.{Word, x_bit, letter_of}
 use Rattle.action.specs.Lists.{below}
 use Rattle.action.specs.Permutation.{Generator}
@@ -9,6 +9,8 @@ use Rattle.pauli_word.specs.Limits.{max_sites}
 use Rattle.permutation.specs.Limits.{max_generators}
 use Rattle.permutation.specs.Generators.{row_at}
 use Rattle.packed.specs.Packed.{word_bits, plane_words, Clear, rotated, keep_at, Mask}
+use Rattle.permutation.specs.declared.Lent.{Lent}
+use Rattle.rotation.specs.declared.shape.Shapes.{Shapes as ShapesFound}
 
 -- the permutation that rotates n sites by s inside blocks of b
 unfoldable pub rotation : ℕ → ℕ → ℕ → List ℕ
@@ -74,11 +76,19 @@ pub record Planes (n m : ℕ) (xs zs : List ℕ) : Type 0 where
 -- the first of two where a word at hand is less than the best so far, else the second
 abbrev pub led : {A : Type 0} → Ordering → A → A → A
 led Less a b = a
-led Same a b = b
+led Equal a b = b
 led Greater a b = b
 
 -- how many words so far are the best, after one more
 abbrev pub tied : Ordering → ℕ → ℕ
 tied Less t = 1
-tied Same t = t + 1
+tied Equal t = t + 1
 tied Greater t = t
+
+-- ---- of a lent group and the shapes found of it
+
+abbrev pub Shaped : Lent → ShapesFound → Type 0
+Shaped g s = Shapes g.generators g.sites g.targets.now s.strides s.rests
+
+abbrev pub Masked : Lent → ℕ → ShapesFound → List ℕ → Type 0
+Masked g m s masks = Masks g.generators g.sites m s.strides s.rests masks

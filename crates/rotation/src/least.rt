@@ -3,15 +3,17 @@ ghost use Rattle.std.specs.Prelude.{◌≡◌, ◌*◌, ◌≤◌, length};
 ghost use Rattle.pauli_word.specs.Bytes.{AcceptedWord, letters_in, bytes_of};
 ghost use Rattle.action.specs.Index.{order_of};
 ghost use Rattle.action.specs.Orbit.{least, forward, fixing};
-ghost use Rattle.elements.specs.HeldGroup.{generators_in, Tables};
+ghost use Rattle.elements.specs.HeldGroup.{HoldsGroup, generators_held};
 ghost use Rattle.packed.specs.Packed.{word_bits, plane_words, letters_at};
-ghost use Rattle.rotation.specs.Rotation.{Shapes, Masks, Planes};
+ghost use Rattle.rotation.specs.Rotation.{Planes, Shaped, Masked};
 
 use crate::planes::MASK_WORDS;
+use crate::shape::Shapes;
 use crate::walk::Lead;
 use crate::{planes, reach, walk};
 use packed::PLANE_WORDS;
 use pauli_word::WORD_BYTES;
+use permutation::Lent;
 
 // The least word of an orbit, the smallest index that reaches it, and how many indices do.
 #[derive(Clone, Copy)]
@@ -23,12 +25,8 @@ pub struct Least {
 
 // The walk from a word, which stays as it is: u and v hold the planes of the word at hand, xs and zs those of the best so far.
 fn walk_copies(
-    targets: &[u16],
-    orders: &[u32],
-    generators: usize,
-    sites: usize,
-    strides: &[usize],
-    rests: &[usize],
+    group: &Lent<'_>,
+    shapes: &Shapes,
     keeps: &[u64],
     order: usize,
     x: &[u64],
@@ -38,46 +36,40 @@ fn walk_copies(
     xs: &mut [u64],
     zs: &mut [u64],
 ) -> Lead
-    requires tables { Tables generators sites targets.now orders.now }
-    requires shapes { Shapes generators sites targets.now strides.now rests.now }
-    requires masks { Masks generators sites (length x.now) strides.now rests.now keeps.now }
-    requires planes { Planes sites (length x.now) x.now z.now }
-    requires order_value { order ≡ order_of (generators_in generators sites targets.now orders.now) }
+    requires tables { HoldsGroup group.now }
+    requires shapes { Shaped group.now shapes.now }
+    requires masks { Masked group.now (length x.now) shapes.now keeps.now }
+    requires planes { Planes group.now.sites (length x.now) x.now z.now }
+    requires order_value { order ≡ order_of (generators_held group.now) }
     requires u_len { (length u.old ≡ length x.now) × (length v.old ≡ length z.now) }
     requires xs_len { (length xs.old ≡ length x.now) × (length zs.old ≡ length z.now) }
-    ensures index { result.index ≡ forward (generators_in generators sites targets.now orders.now) (letters_at sites x.now z.now) }
-    ensures ties { result.ties ≡ length (fixing (generators_in generators sites targets.now orders.now) (letters_at sites x.now z.now)) }
+    ensures index { result.index ≡ forward (generators_held group.now) (letters_at group.now.sites x.now z.now) }
+    ensures ties { result.ties ≡ length (fixing (generators_held group.now) (letters_at group.now.sites x.now z.now)) }
 {
     packed::words::copy(x, u);
     packed::words::copy(z, v);
     packed::words::copy(x, xs);
     packed::words::copy(z, zs);
     let m = x.len();
-    walk::walk_least(
-        targets, orders, generators, sites, strides, rests, keeps, m, order, u, v, xs, zs,
-    )
+    walk::walk_least(group, shapes, keeps, m, order, u, v, xs, zs)
 }
 
 // The walk from a word, with places for copies of its planes.
 pub fn walk_from(
-    targets: &[u16],
-    orders: &[u32],
-    generators: usize,
-    sites: usize,
-    strides: &[usize],
-    rests: &[usize],
+    group: &Lent<'_>,
+    shapes: &Shapes,
     keeps: &[u64],
     order: usize,
     x: &[u64],
     z: &[u64],
 ) -> Lead
-    requires tables { Tables generators sites targets.now orders.now }
-    requires shapes { Shapes generators sites targets.now strides.now rests.now }
-    requires masks { Masks generators sites (length x.now) strides.now rests.now keeps.now }
-    requires planes { Planes sites (length x.now) x.now z.now }
-    requires order_value { order ≡ order_of (generators_in generators sites targets.now orders.now) }
-    ensures index { result.index ≡ forward (generators_in generators sites targets.now orders.now) (letters_at sites x.now z.now) }
-    ensures ties { result.ties ≡ length (fixing (generators_in generators sites targets.now orders.now) (letters_at sites x.now z.now)) }
+    requires tables { HoldsGroup group.now }
+    requires shapes { Shaped group.now shapes.now }
+    requires masks { Masked group.now (length x.now) shapes.now keeps.now }
+    requires planes { Planes group.now.sites (length x.now) x.now z.now }
+    requires order_value { order ≡ order_of (generators_held group.now) }
+    ensures index { result.index ≡ forward (generators_held group.now) (letters_at group.now.sites x.now z.now) }
+    ensures ties { result.ties ≡ length (fixing (generators_held group.now) (letters_at group.now.sites x.now z.now)) }
 {
     let m = x.len();
     let k = z.len();
@@ -86,12 +78,8 @@ pub fn walk_from(
     let mut best_x = [0u64; PLANE_WORDS];
     let mut best_z = [0u64; PLANE_WORDS];
     walk_copies(
-        targets,
-        orders,
-        generators,
-        sites,
-        strides,
-        rests,
+        group,
+        shapes,
         keeps,
         order,
         x,
@@ -104,78 +92,60 @@ pub fn walk_from(
 }
 
 // The smallest index that reaches the least word of a word's orbit, and how many do: by the X plane alone where only one index reaches its least.
-pub fn lead_of(
-    targets: &[u16],
-    orders: &[u32],
-    generators: usize,
-    sites: usize,
-    strides: &[usize],
-    rests: &[usize],
-    order: usize,
-    x: &[u64],
-    z: &[u64],
-) -> Lead
-    requires tables { Tables generators sites targets.now orders.now }
-    requires shapes { Shapes generators sites targets.now strides.now rests.now }
-    requires z_len { (length z.now ≡ length x.now) × Planes sites (length x.now) x.now z.now }
-    requires order_value { order ≡ order_of (generators_in generators sites targets.now orders.now) }
-    ensures index { result.index ≡ forward (generators_in generators sites targets.now orders.now) (letters_at sites x.now z.now) }
-    ensures ties { result.ties ≡ length (fixing (generators_in generators sites targets.now orders.now) (letters_at sites x.now z.now)) }
+pub fn lead_of(group: &Lent<'_>, shapes: &Shapes, order: usize, x: &[u64], z: &[u64]) -> Lead
+    requires tables { HoldsGroup group.now }
+    requires shapes { Shaped group.now shapes.now }
+    requires z_len { (length z.now ≡ length x.now) × Planes group.now.sites (length x.now) x.now z.now }
+    requires order_value { order ≡ order_of (generators_held group.now) }
+    ensures index { result.index ≡ forward (generators_held group.now) (letters_at group.now.sites x.now z.now) }
+    ensures ties { result.ties ≡ length (fixing (generators_held group.now) (letters_at group.now.sites x.now z.now)) }
 {
-    let m = x.len();
-    let mut keeps = [0u64; MASK_WORDS];
-    planes::fill_masks(strides, rests, generators, sites, m, &mut keeps);
-    let lead = walk_from(
-        targets,
-        orders,
+    let Lent {
         generators,
         sites,
-        strides,
-        rests,
-        &keeps,
-        order,
-        x,
-        &z[0..0],
+        ..
+    } = *group;
+    let m = x.len();
+    let mut keeps = [0u64; MASK_WORDS];
+    planes::fill_masks(
+        &shapes.strides,
+        &shapes.rests,
+        generators,
+        sites,
+        m,
+        &mut keeps,
     );
+    let lead = walk_from(group, shapes, &keeps, order, x, &z[0..0]);
     if lead.ties == 1 {
         lead
     } else {
-        walk_from(
-            targets, orders, generators, sites, strides, rests, &keeps, order, x, z,
-        )
+        walk_from(group, shapes, &keeps, order, x, z)
     }
 }
 
 // The least word of a word's orbit, the smallest index that reaches it, and how many do: in the planes x and z, where the word moves.
 fn least_in(
-    targets: &[u16],
-    orders: &[u32],
-    generators: usize,
-    sites: usize,
-    strides: &[usize],
-    rests: &[usize],
+    group: &Lent<'_>,
+    shapes: &Shapes,
     order: usize,
     word: &[u8],
     x: &mut [u64],
     z: &mut [u64],
 ) -> Least
-    requires tables { Tables generators sites targets.now orders.now }
-    requires shapes { Shapes generators sites targets.now strides.now rests.now }
-    requires accepted_word { AcceptedWord sites word.now }
-    requires order_value { order ≡ order_of (generators_in generators sites targets.now orders.now) }
-    requires x_len_bound { (length x.old ≤ plane_words) × (sites ≤ word_bits * length x.old) × (length z.old ≡ length x.old) }
-    ensures word { result.word ≡ bytes_of (least (generators_in generators sites targets.now orders.now) (letters_in sites word.now)) }
-    ensures index { result.index ≡ forward (generators_in generators sites targets.now orders.now) (letters_in sites word.now) }
-    ensures ties { result.ties ≡ length (fixing (generators_in generators sites targets.now orders.now) (letters_in sites word.now)) }
+    requires tables { HoldsGroup group.now }
+    requires shapes { Shaped group.now shapes.now }
+    requires accepted_word { AcceptedWord group.now.sites word.now }
+    requires order_value { order ≡ order_of (generators_held group.now) }
+    requires x_len_bound { (length x.old ≤ plane_words) × (group.now.sites ≤ word_bits * length x.old) × (length z.old ≡ length x.old) }
+    ensures word { result.word ≡ bytes_of (least (generators_held group.now) (letters_in group.now.sites word.now)) }
+    ensures index { result.index ≡ forward (generators_held group.now) (letters_in group.now.sites word.now) }
+    ensures ties { result.ties ≡ length (fixing (generators_held group.now) (letters_in group.now.sites word.now)) }
 {
+    let Lent { sites, .. } = *group;
     planes::pack_planes(word, sites, x, z);
-    let lead = lead_of(
-        targets, orders, generators, sites, strides, rests, order, x, z,
-    );
+    let lead = lead_of(group, shapes, order, x, z);
     let index = lead.index;
-    reach::reach(
-        targets, orders, generators, sites, strides, rests, index, x, z,
-    );
+    reach::reach(group, shapes, index, x, z);
     let out = planes::unpack_planes(x, z, sites);
     Least {
         word: out,
@@ -185,37 +155,18 @@ fn least_in(
 }
 
 // The least word of a word's orbit, the smallest index that reaches it, and how many do.
-pub fn least_by_masks(
-    targets: &[u16],
-    orders: &[u32],
-    generators: usize,
-    sites: usize,
-    strides: &[usize],
-    rests: &[usize],
-    order: usize,
-    word: &[u8],
-) -> Least
-    requires tables { Tables generators sites targets.now orders.now }
-    requires shapes { Shapes generators sites targets.now strides.now rests.now }
-    requires accepted_word { AcceptedWord sites word.now }
-    requires order_value { order ≡ order_of (generators_in generators sites targets.now orders.now) }
-    ensures word { result.word ≡ bytes_of (least (generators_in generators sites targets.now orders.now) (letters_in sites word.now)) }
-    ensures index { result.index ≡ forward (generators_in generators sites targets.now orders.now) (letters_in sites word.now) }
-    ensures ties { result.ties ≡ length (fixing (generators_in generators sites targets.now orders.now) (letters_in sites word.now)) }
+pub fn least_by_masks(group: &Lent<'_>, shapes: &Shapes, order: usize, word: &[u8]) -> Least
+    requires tables { HoldsGroup group.now }
+    requires shapes { Shaped group.now shapes.now }
+    requires accepted_word { AcceptedWord group.now.sites word.now }
+    requires order_value { order ≡ order_of (generators_held group.now) }
+    ensures word { result.word ≡ bytes_of (least (generators_held group.now) (letters_in group.now.sites word.now)) }
+    ensures index { result.index ≡ forward (generators_held group.now) (letters_in group.now.sites word.now) }
+    ensures ties { result.ties ≡ length (fixing (generators_held group.now) (letters_in group.now.sites word.now)) }
 {
+    let Lent { sites, .. } = *group;
     let m = planes::words_in_use(sites);
     let mut x = [0u64; PLANE_WORDS];
     let mut z = [0u64; PLANE_WORDS];
-    least_in(
-        targets,
-        orders,
-        generators,
-        sites,
-        strides,
-        rests,
-        order,
-        word,
-        &mut x[0..m],
-        &mut z[0..m],
-    )
+    least_in(group, shapes, order, word, &mut x[0..m], &mut z[0..m])
 }

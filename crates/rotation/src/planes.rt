@@ -9,8 +9,9 @@ ghost use Rattle.permutation.specs.Limits.{max_generators};
 ghost use Rattle.rotation.specs.Rotation.{rotation, Blocks, Planes, Masks};
 
 use packed::{PLANE_WORDS, WORD_BITS};
-use pauli_word::{Ordering, PLANE_BYTES, WORD_BYTES};
+use pauli_word::{PLANE_BYTES, WORD_BYTES};
 use permutation::MAX_GENERATORS;
+use std::cmp::Ordering;
 
 // The machine words of a mask for each generator.
 pub const MASK_WORDS: usize = MAX_GENERATORS * PLANE_WORDS;
@@ -91,7 +92,7 @@ pub fn order_of(x: &[u64], z: &[u64], xs: &[u64], zs: &[u64], sites: usize) -> O
     match packed::words::compare(x, xs) {
         Ordering::Less => Ordering::Less,
         Ordering::Greater => Ordering::Greater,
-        Ordering::Same => packed::words::compare(z, zs),
+        Ordering::Equal => packed::words::compare(z, zs),
     }
 }
 
@@ -109,13 +110,11 @@ pub fn fill_masks(
     requires by_index { (g : ℕ) → g < generators → (0 < get_or strides.now g 0 + get_or rests.now g 0) × (sites % (get_or strides.now g 0 + get_or rests.now g 0) ≡ 0) × (get_or strides.now g 0 + get_or rests.now g 0 ≤ max_sites + max_sites) }
     ensures { Masks generators sites m strides.now rests.now masks.new }
 {
-    let mut g = 0;
-    while g < generators {
+    for g in 0..generators {
         let start = m * g;
         let end = start + m;
         let stride = strides[g];
         let block = stride + rests[g];
         packed::shift::keep_mask(stride, block, sites, &mut masks[start..end]);
-        g += 1;
     }
 }

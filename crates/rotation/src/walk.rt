@@ -4,12 +4,14 @@ ghost use Rattle.pauli_word.specs.Calls.{order_of_words};
 ghost use Rattle.permutation.specs.Limits.{max_order};
 ghost use Rattle.action.specs.Index.{order_of, digits};
 ghost use Rattle.action.specs.Orbit.{stepped, forward, fixing};
-ghost use Rattle.elements.specs.HeldGroup.{generators_in, Tables};
-ghost use Rattle.rotation.specs.Rotation.{Shapes, Masks, Planes, led, tied};
+ghost use Rattle.elements.specs.HeldGroup.{HoldsGroup, generators_held};
+ghost use Rattle.rotation.specs.Rotation.{Planes, led, tied, Shaped, Masked};
 ghost use Rattle.packed.specs.Packed.{letters_at};
 
 use crate::planes;
-use pauli_word::Ordering;
+use crate::shape::Shapes;
+use permutation::Lent;
+use std::cmp::Ordering;
 
 // The smallest index that reaches the least word so far, and how many indices so far reach it.
 #[derive(Clone, Copy)]
@@ -20,28 +22,30 @@ pub struct Lead {
 
 // The walk's step from the entry of an index to the next.
 pub fn advance(
-    targets: &[u16],
-    orders: &[u32],
-    generators: usize,
-    sites: usize,
-    strides: &[usize],
-    rests: &[usize],
+    group: &Lent<'_>,
+    shapes: &Shapes,
     keeps: &[u64],
     m: usize,
     index: usize,
     x: &mut [u64],
     z: &mut [u64],
 )
-    requires tables { Tables generators sites targets.now orders.now }
-    requires shapes { Shapes generators sites targets.now strides.now rests.now }
-    requires masks { Masks generators sites m strides.now rests.now keeps.now }
-    requires planes_2 { Planes sites m x.old z.old }
-    ensures planes { Planes sites m x.new z.new }
-    ensures letters { letters_at sites x.new z.new ≡ stepped (generators_in generators sites targets.now orders.now) (digits (generators_in generators sites targets.now orders.now) index) (letters_at sites x.old z.old) }
+    requires tables { HoldsGroup group.now }
+    requires shapes { Shaped group.now shapes.now }
+    requires masks { Masked group.now m shapes.now keeps.now }
+    requires planes_2 { Planes group.now.sites m x.old z.old }
+    ensures planes { Planes group.now.sites m x.new z.new }
+    ensures letters { letters_at group.now.sites x.new z.new ≡ stepped (generators_held group.now) (digits (generators_held group.now) index) (letters_at group.now.sites x.old z.old) }
 {
+    let Lent {
+        orders,
+        generators,
+        sites,
+        ..
+    } = *group;
+    let Shapes { strides, rests } = *shapes;
     let mut rest = index;
-    let mut g = 0;
-    while g < generators {
+    for g in 0..generators {
         let start = m * g;
         let end = start + m;
         let stride = strides[g];
@@ -51,7 +55,6 @@ pub fn advance(
             return;
         }
         rest = rest / o;
-        g += 1;
     }
 }
 
@@ -79,7 +82,7 @@ pub fn take_lead(
             packed::words::copy(z, zs);
             Lead { index: i, ties: 1 }
         }
-        Ordering::Same => Lead {
+        Ordering::Equal => Lead {
             index: lead.index,
             ties: lead.ties + 1,
         },
@@ -89,12 +92,8 @@ pub fn take_lead(
 
 // The smallest index that reaches the least word of a word's orbit, and how many do, by walking it whole. The word is at hand and is the best so far.
 pub fn walk_least(
-    targets: &[u16],
-    orders: &[u32],
-    generators: usize,
-    sites: usize,
-    strides: &[usize],
-    rests: &[usize],
+    group: &Lent<'_>,
+    shapes: &Shapes,
     keeps: &[u64],
     m: usize,
     order: usize,
@@ -103,22 +102,19 @@ pub fn walk_least(
     xs: &mut [u64],
     zs: &mut [u64],
 ) -> Lead
-    requires tables { Tables generators sites targets.now orders.now }
-    requires shapes { Shapes generators sites targets.now strides.now rests.now }
-    requires masks { Masks generators sites m strides.now rests.now keeps.now }
-    requires planes { Planes sites m x.old z.old × (xs.old ≡ x.old) × (zs.old ≡ z.old) }
-    requires order_value { order ≡ order_of (generators_in generators sites targets.now orders.now) }
-    ensures index { result.index ≡ forward (generators_in generators sites targets.now orders.now) (letters_at sites x.old z.old) }
-    ensures ties { result.ties ≡ length (fixing (generators_in generators sites targets.now orders.now) (letters_at sites x.old z.old)) }
+    requires tables { HoldsGroup group.now }
+    requires shapes { Shaped group.now shapes.now }
+    requires masks { Masked group.now m shapes.now keeps.now }
+    requires planes { Planes group.now.sites m x.old z.old × (xs.old ≡ x.old) × (zs.old ≡ z.old) }
+    requires order_value { order ≡ order_of (generators_held group.now) }
+    ensures index { result.index ≡ forward (generators_held group.now) (letters_at group.now.sites x.old z.old) }
+    ensures ties { result.ties ≡ length (fixing (generators_held group.now) (letters_at group.now.sites x.old z.old)) }
 {
+    let Lent { sites, .. } = *group;
     let mut lead = Lead { index: 0, ties: 0 };
-    let mut i = 0;
-    while i < order {
+    for i in 0..order {
         lead = take_lead(x, z, sites, i, xs, zs, lead);
-        advance(
-            targets, orders, generators, sites, strides, rests, keeps, m, i, x, z,
-        );
-        i += 1;
+        advance(group, shapes, keeps, m, i, x, z);
     }
     lead
 }

@@ -14,7 +14,6 @@ use lib.ListN.{length, get_or, drop, drop_of_length-le}
 use lib.Seq.{drop-cons}
 use borrow.Author.Tests.{lt-ltb, le-ltb, ltb-false, eq-eqb, ne_eqb, eqb-true, not-false}
 use Rattle.outcome.specs.declared.Refusal.{Refusal}
-use Rattle.outcome.specs.declared.Refusal.TheVariants as Refusal
 use Rattle.outcome.specs.Outcome.{Outcome, answer, refused, refusal_of, verdict, given, Check}
 use Rattle.outcome.proofs.Outcomes.{refused_apart, verdict-fine, verdict-append, front_refused}
 use Rattle.pauli_word.specs.Limits.{max_sites, word_length, old_length}

@@ -1,13 +1,13 @@
 // What is checked of the lists of a sum whatever its contents are: 22, 23, 36, and 17 of a row; the same of rows of words alone; and rows in full.
 // Whoever calls a function here owes its `requires`.
 ghost use Rattle.std.specs.Prelude.{◌≡◌, [], ◌∷◌, ◌+◌, ◌*◌, ◌≤◌, length};
-ghost use Rattle.outcome.specs.Outcome.{outcome_of_verdict, verdict};
+ghost use Rattle.outcome.specs.Outcome.{outcome_of, verdict};
 ghost use Rattle.pauli_word.specs.Bytes.{EitherLength, in_full};
 ghost use Rattle.row_lists.specs.Rows.{row_by, row_size, in_full_by};
 ghost use Rattle.row_lists.specs.Checks.{rows_agree, other_rows, many_rows, old_rows, bit_above_sites, bits_above_sites, word_list_checks};
 
 use crate::MAX_ROWS;
-use outcome::{Refusal, Verdict};
+use outcome::Refusal;
 use pauli_word::{OLD_WORD_BYTES, WORD_BYTES};
 
 // Whether all lists have as many rows, by the lengths of the input's words and contents, and of the output's words and its two other lists. The
@@ -58,19 +58,19 @@ pub fn lengths_checked(
     leasts: usize,
     first: usize,
     second: usize,
-) -> Verdict
-    ensures { outcome_of_verdict result ≡ verdict (other_rows words rows leasts first second ∷ many_rows rows ∷ old_rows sites words rows ∷ []) }
+) -> Result<(), Refusal>
+    ensures { outcome_of result ≡ verdict (other_rows words rows leasts first second ∷ many_rows rows ∷ old_rows sites words rows ∷ []) }
 {
     if !rows_agree(words, rows, leasts, first, second) {
-        return Verdict::Refused(Refusal::SumLists);
+        return Err(Refusal::SumLists);
     }
     if MAX_ROWS < rows {
-        return Verdict::Refused(Refusal::TooManyRows);
+        return Err(Refusal::TooManyRows);
     }
     if pauli_word::inner::past_old(sites, row_size(words, rows)) {
-        return Verdict::Refused(Refusal::OldWordSites);
+        return Err(Refusal::OldWordSites);
     }
-    Verdict::Accepted
+    Ok(())
 }
 
 // The word of row i in full, of rows of this many bytes.
@@ -85,37 +85,29 @@ pub fn row_in_full(words: &[u8], size: usize, i: usize) -> [u8; WORD_BYTES]
 }
 
 // The check of row i's word: 17.
-pub fn word_checked(sites: usize, words: &[u8], size: usize, i: usize) -> Verdict
+pub fn word_checked(sites: usize, words: &[u8], size: usize, i: usize) -> Result<(), Refusal>
     requires either_length { EitherLength size }
     requires size_in_bounds { size * i + size ≤ length words.now }
-    ensures { outcome_of_verdict result ≡ verdict (bit_above_sites sites i (in_full (row_by size words.now i)) ∷ []) }
+    ensures { outcome_of result ≡ verdict (bit_above_sites sites i (in_full (row_by size words.now i)) ∷ []) }
 {
     let at = size * i;
     let end = at + size;
     if pauli_word::inner::clear_above(sites, &words[at..end]) {
-        Verdict::Accepted
+        Ok(())
     } else {
-        Verdict::Refused(Refusal::RowBitAboveSites(i))
+        Err(Refusal::RowBitAboveSites(i))
     }
 }
 
 // The check of each row's word, in their order: 17.
-pub fn words_checked(sites: usize, words: &[u8], size: usize, rows: usize) -> Verdict
+pub fn words_checked(sites: usize, words: &[u8], size: usize, rows: usize) -> Result<(), Refusal>
     requires { EitherLength size × (length words.now ≡ size * rows) }
-    ensures { outcome_of_verdict result ≡ verdict (bits_above_sites sites (in_full_by size rows words.now) 0 rows) }
+    ensures { outcome_of result ≡ verdict (bits_above_sites sites (in_full_by size rows words.now) 0 rows) }
 {
-    let mut i = 0;
-    while i < rows {
-        match word_checked(sites, words, size, i) {
-            Verdict::Refused(why) => {
-                return Verdict::Refused(why);
-            }
-            Verdict::Accepted => {
-                i += 1;
-            }
-        }
+    for i in 0..rows {
+        word_checked(sites, words, size, i)?;
     }
-    Verdict::Accepted
+    Ok(())
 }
 
 // The checks of the lists of a call on rows of words alone: 22, 23, 36, and then 17 of each row.
@@ -126,12 +118,10 @@ pub fn word_lists_checked(
     leasts: usize,
     first: usize,
     second: usize,
-) -> Verdict
-    ensures { outcome_of_verdict result ≡ verdict (word_list_checks sites words.now rows leasts first second) }
+) -> Result<(), Refusal>
+    ensures { outcome_of result ≡ verdict (word_list_checks sites words.now rows leasts first second) }
 {
     let size = row_size(words.len(), rows);
-    match lengths_checked(sites, words.len(), rows, leasts, first, second) {
-        Verdict::Refused(why) => Verdict::Refused(why),
-        Verdict::Accepted => words_checked(sites, words, size, rows),
-    }
+    lengths_checked(sites, words.len(), rows, leasts, first, second)?;
+    words_checked(sites, words, size, rows)
 }

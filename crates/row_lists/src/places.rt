@@ -14,11 +14,9 @@ pub fn own(positions: &[u16], used: usize, owners: &mut [u16])
     requires by_index { (p : ℕ) → get_or owners.old p 0 < max_rows }
     ensures { Owned positions.now owners.new 0 used }
 {
-    let mut k = 0;
-    while k < used {
+    for k in 0..used {
         let at = positions[k] as usize;
         owners[at] = k as u16;
-        k += 1;
     }
 }
 
@@ -29,10 +27,8 @@ pub fn place_rows(positions: &mut [u16], used: usize, words: &mut [u8])
 {
     let mut owners = [0u16; MAX_ROWS];
     own(positions, used, &mut owners);
-    let mut k = 0;
-    while k < used {
+    for k in 0..used {
         exchange::place_row(positions, &mut owners, k, words);
-        k += 1;
     }
 }
 

@@ -5,9 +5,5 @@ pub fn bytes_from(list: &mut [u8], from: usize)
     requires { from ≤ length list.old }
     ensures { list.new ≡ take from list.old ++ replicate (length list.old - from) 0 }
 {
-    let mut i = from;
-    while i < list.len() {
-        list[i] = 0;
-        i += 1;
-    }
+    list[from..].fill(0);
 }

@@ -1,12 +1,12 @@
 -- The order of rows' bytes.
 -- The fact that carries it: bytes of one length are the same if their bits are (`planeBits-injective`), so neither less means equal.
+use Rattle.std.specs.declared.cmp.Ordering.{Ordering}
+use Rattle.std.specs.declared.cmp.Ordering.TheVariants.{Less, Equal, Greater}
 use Prim.Native.Nat.{ℕ, ◌*◌}
 use mathlib.Core.Path.{◌≡◌, refl, sym, ◌∙◌, ap}
 use mathlib.Core.Bool.{Bool, true, false, cond}
 use mathlib.Core.List.{List}
 use lib.ListN.{length}
-use Rattle.pauli_word.specs.declared.Ordering.{Ordering}
-use Rattle.pauli_word.specs.declared.Ordering.TheVariants.{Less, Same, Greater}
 use Rattle.pauli_word.specs.Word.{less_bits}
 use Rattle.pauli_word.specs.Bytes.{plane_bits}
 use Rattle.pauli_word.specs.Calls.{order_of_bits}
@@ -24,14 +24,14 @@ use Rattle.row_words.specs.Words.{less_bytes}
 -- the two tests that an order of bits tells of
 abbrev Tests : Ordering → Bool → Bool → Type 0
 Tests Less s t = s ≡ true
-Tests Same s t = (s ≡ false) × (t ≡ false)
+Tests Equal s t = (s ≡ false) × (t ≡ false)
 Tests Greater s t = t ≡ true
 
 order_tests : (xs ys : List Bool) (o : Ordering) → order_of_bits xs ys ≡ o → Tests o (less_bits xs ys) (less_bits ys xs)
 unfolding order_of_bits
 order_tests xs ys o e = rw e at (told (less_bits xs ys) (less_bits ys xs))
   where
-    told : (s t : Bool) → Tests (cond s Less (cond t Greater Same)) s t
+    told : (s t : Bool) → Tests (cond s Less (cond t Greater Equal)) s t
     told true t = refl
     told false true = refl
     told false false = (refl, refl)
@@ -45,9 +45,9 @@ module _ (a b : List ℕ) where
   unfolding less_bytes
   order-greater = order_tests (plane_bits a) (plane_bits b) Greater
 
-  pub order_same : order_of_bits (plane_bits a) (plane_bits b) ≡ Same → (less_bytes a b ≡ false) × (less_bytes b a ≡ false)
+  pub order_same : order_of_bits (plane_bits a) (plane_bits b) ≡ Equal → (less_bytes a b ≡ false) × (less_bytes b a ≡ false)
   unfolding less_bytes
-  order_same = order_tests (plane_bits a) (plane_bits b) Same
+  order_same = order_tests (plane_bits a) (plane_bits b) Equal
 
 bytes-total : (a b : List ℕ) → RowBytes a → RowBytes b → less_bytes a b ≡ false → less_bytes b a ≡ false → a ≡ b
 unfolding less_bytes

@@ -1,11 +1,11 @@
 -- The search by halves among the rows at positions: what its loop knows, by the words of the rows (`Between` of keyed).
+use Rattle.std.specs.declared.cmp.Ordering.TheVariants.{Less, Equal, Greater}
 use Prim.Native.Nat.{ℕ, ◌+◌, ◌≤◌, ◌<◌}
 use mathlib.Core.Path.{◌≡◌, sym, ap, subst, ◌∙◌}
 use mathlib.Core.List.{List, [], map}
 use native.Mathlib.Omega.{arith}
 use lib.ListN.{length, get_or, take, length-map}
 use lib.Seq.{length-take-le, get_or-take}
-use Rattle.pauli_word.specs.declared.Ordering.TheVariants.{Less, Same, Greater}
 use Rattle.pauli_word.specs.Bytes.{plane_bits}
 use Rattle.pauli_word.specs.Calls.{order_of_bits}
 use Rattle.keyed.specs.Keyed.{slot_of, found, free}
@@ -49,7 +49,7 @@ module _ {words positions : List ℕ} {used row : ℕ} (p : Places words positio
     pub search-down : order_of_bits (plane_bits (row_at words (get_or positions m 0))) (plane_bits (row_at words row)) ≡ Greater → Searching words positions used row low m
     search-down e = between-down byte_orders b p.rising l h (ap (less_bytes (row_at words row)) (word_at m below-used) ∙ order-greater _ _ e)
 
-    pub search-found : order_of_bits (plane_bits (row_at words (get_or positions m 0))) (plane_bits (row_at words row)) ≡ Same
+    pub search-found : order_of_bits (plane_bits (row_at words (get_or positions m 0))) (plane_bits (row_at words row)) ≡ Equal
         → slot_of less_bytes (row_at words row) (words_at words positions used) ≡ found m
     search-found e =
         let at = word_at m below-used in

@@ -1,10 +1,10 @@
 -- Words of n letters are compared as their bytes are.
+use Rattle.std.specs.declared.cmp.Ordering.{Ordering}
+use Rattle.std.specs.declared.cmp.Ordering.TheVariants.{Less, Equal, Greater}
 use Prim.Native.Nat.{ℕ, ◌≤◌}
 use mathlib.Core.Path.{◌≡◌, refl, sym, ap, ap₂, ◌∙◌}
 use mathlib.Core.Bool.{Bool, true, false, cond}
 use lib.ListN.{length}
-use Rattle.pauli_word.specs.declared.Ordering.{Ordering}
-use Rattle.pauli_word.specs.declared.Ordering.TheVariants.{Less, Same, Greater}
 use Rattle.pauli_word.specs.Limits.{max_sites, plane_length}
 use Rattle.pauli_word.specs.Word.{Word, less, same}
 use Rattle.pauli_word.specs.Bytes.{plane_bits, letters_in, bytes_of}
@@ -17,10 +17,10 @@ use Rattle.row_words.specs.Words.{less_bytes}
 
 is_less : Ordering → Bool
 is_less Less = true
-is_less Same = false
+is_less Equal = false
 is_less Greater = false
 
-order_tells : (s t : Bool) → is_less (cond s Less (cond t Greater Same)) ≡ s
+order_tells : (s t : Bool) → is_less (cond s Less (cond t Greater Equal)) ≡ s
 unfolding is_less
 order_tells true t = refl
 order_tells false true = refl

@@ -1,12 +1,10 @@
 -- What the lists hold while the words of rows are merged: the first positions are the rows that have a word first, in rising order of their words,
 -- and each row's home is the one of them that has its word.
-use Rattle.std.specs.Prelude.{ℕ, ◌+◌, ◌*◌, ◌/◌, ◌≤◌, ◌<◌, ◌≡◌, List, map, length, get_or, take}
+use Rattle.std.specs.Prelude.{ℕ, ◌+◌, ◌*◌, ◌/◌, ◌≤◌, ◌<◌, ◌≡◌, List, map, length, get_or, take, Result, Ok, Err}
 use Rattle.pauli_word.specs.Limits.{word_length}
 use Rattle.pauli_word.specs.Bytes.{Bytes}
 use Rattle.action.specs.Lists.{Member}
 use Rattle.keyed.specs.Keyed.{Rising, Slot, found, free}
-use Rattle.row_words.specs.declared.search.Slot.{Slot as RowSlot}
-use Rattle.row_words.specs.declared.search.Slot.TheVariants as RowSlot
 use Rattle.row_lists.specs.Rows.{max_rows, row_at}
 use Rattle.row_words.specs.Words.{less_bytes, different_words}
 
@@ -33,6 +31,6 @@ pub record Places (words positions : List ℕ) (used i : ℕ) : Type 0 where
   pub rising : Rising less_bytes (map (row_at words) (take used positions))
 
 -- the slot that an answer names
-abbrev pub slot_found : RowSlot → Slot
-slot_found (RowSlot.Found k) = found k
-slot_found (RowSlot.Free k) = free k
+abbrev pub slot_found : Result ℕ ℕ → Slot
+slot_found (Ok k) = found k
+slot_found (Err k) = free k

@@ -16,11 +16,9 @@ pub fn place_homes(owners: &[u16], rows: usize, homes: &mut [u16])
     ensures long { length homes.new ≡ max_rows }
     ensures owned { (i : ℕ) → i < rows → get_or homes.new i 0 ≡ get_or owners.now (get_or homes.old i 0) 0 }
 {
-    let mut i = 0;
-    while i < rows {
+    for i in 0..rows {
         let home = homes[i] as usize;
         homes[i] = owners[home];
-        i += 1;
     }
 }
 

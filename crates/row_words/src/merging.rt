@@ -7,7 +7,6 @@ ghost use Rattle.row_lists.specs.Rows.{max_rows};
 ghost use Rattle.row_words.specs.Held.{Held};
 
 use crate::search;
-use crate::search::Slot;
 
 // Puts a row in before place k of the first `used` positions; those from k on move up by one.
 pub fn insert(positions: &mut [u16], used: usize, k: usize, row: u16)
@@ -16,10 +15,8 @@ pub fn insert(positions: &mut [u16], used: usize, k: usize, row: u16)
     ensures length { length positions.new ≡ length positions.old }
     ensures list { take (used + 1) positions.new ≡ insert_at k row (take used positions.old) }
 {
-    let mut i = used;
-    while k < i {
-        positions[i] = positions[i - 1];
-        i -= 1;
+    for i in (k..used).rev() {
+        positions[i + 1] = positions[i];
     }
     positions[k] = row;
 }
@@ -37,11 +34,11 @@ pub fn merge_row(
     ensures { Held words.now (row + 1) result positions.new homes.new }
 {
     match search::slot_of(words, positions, used, row) {
-        Slot::Found(k) => {
+        Ok(k) => {
             homes[row] = positions[k];
             used
         }
-        Slot::Free(k) => {
+        Err(k) => {
             insert(positions, used, k, row as u16);
             homes[row] = row as u16;
             used + 1
@@ -58,10 +55,8 @@ pub fn merge_rows(words: &[u8], rows: usize, positions: &mut [u16], homes: &mut 
     ensures { Held words.now rows result positions.new homes.new }
 {
     let mut used = 0;
-    let mut i = 0;
-    while i < rows {
+    for i in 0..rows {
         used = merge_row(words, positions, homes, used, i);
-        i += 1;
     }
     used
 }

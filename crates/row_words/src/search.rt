@@ -8,16 +8,8 @@ ghost use Rattle.row_lists.specs.Rows.{row_at};
 ghost use Rattle.row_words.specs.Words.{less_bytes};
 ghost use Rattle.row_words.specs.Held.{slot_found, Places};
 
-use pauli_word::{Ordering, WORD_BYTES};
-
-// A place among rows in rising order.
-#[derive(Clone, Copy)]
-pub enum Slot {
-    // The word stands there.
-    Found(usize),
-    // The word is not among them, and would be put in there.
-    Free(usize),
-}
+use pauli_word::WORD_BYTES;
+use std::cmp::Ordering;
 
 // How row a's word stands to row b's.
 pub fn compare_rows(words: &[u8], a: usize, b: usize) -> Ordering
@@ -33,13 +25,15 @@ pub fn compare_rows(words: &[u8], a: usize, b: usize) -> Ordering
     )
 }
 
-// Where the word of a row stands among those of the first `used` positions, which are in rising order, by halving. At most 13 comparisons.
-pub fn slot_of(words: &[u8], positions: &[u16], used: usize, row: usize) -> Slot
+// Where the word of a row stands among those of the first `used` positions, which are in rising order, or where it would be put in, by halving. At
+// most 13 comparisons.
+pub fn slot_of(words: &[u8], positions: &[u16], used: usize, row: usize) -> Result<usize, usize>
     requires { Places words.now positions.now used row }
     ensures { slot_found result ≡ slot_of less_bytes (row_at words.now row) (map (row_at words.now) (take used positions.now)) }
 {
     let mut low = 0;
     let mut high = used;
+    // A while, and not `binary_search_by`: that takes a test that may be called on any position, and rows compare only where they stand in the list.
     while low < high {
         let middle = low + (high - low) / 2;
         let at = positions[middle] as usize;
@@ -50,10 +44,10 @@ pub fn slot_of(words: &[u8], positions: &[u16], used: usize, row: usize) -> Slot
             Ordering::Greater => {
                 high = middle;
             }
-            Ordering::Same => {
-                return Slot::Found(middle);
+            Ordering::Equal => {
+                return Ok(middle);
             }
         }
     }
-    Slot::Free(low)
+    Err(low)
 }

@@ -4,11 +4,11 @@ ghost use Rattle.pauli_word.specs.Limits.{word_length};
 ghost use Rattle.pauli_word.specs.Bytes.{EitherLength, AcceptedWord, letters_in, in_full};
 ghost use Rattle.action.specs.Index.{order_of};
 ghost use Rattle.action.specs.Sector.{modulus as modulusOf};
-ghost use Rattle.elements.specs.HeldGroup.{generators_in, Tables};
+ghost use Rattle.elements.specs.HeldGroup.{HoldsGroup, generators_held};
 ghost use Rattle.row_lists.specs.Rows.{row_by, in_full_by};
 ghost use Rattle.row_lists.specs.Checks.{AcceptedRows};
 ghost use Rattle.packed.specs.Packed.{plane_words};
-ghost use Rattle.paths.specs.Paths.{Taken, words_of};
+ghost use Rattle.paths.specs.Paths.{words_of, Takes};
 ghost use Rattle.decisions.specs.Decisions.{decision, row_word};
 ghost use Rattle.decisions.specs.Placements.{placement_of};
 ghost use Rattle.sector_rows.specs.Rows.{decided_rows, sector_words, sector_indices, sector_sizes};
@@ -19,19 +19,16 @@ use decisions::stabilizer;
 use packed::PLANE_WORDS;
 use paths::plan::Path;
 use pauli_word::WORD_BYTES;
-use permutation::MAX_GENERATORS;
+use permutation::Lent;
 use rotation::planes::MASK_WORDS;
+use rotation::shape::Shapes;
 
 // Writes the least word of the orbit of row i's word into `row`, or zeros where the modes drop the word; the decision by its numbers. A row in full is read
 // where it stands.
 pub fn place_row(
     path: Path,
-    targets: &[u16],
-    orders: &[u32],
-    generators: usize,
-    sites: usize,
-    strides: &[usize],
-    rests: &[usize],
+    group: &Lent<'_>,
+    shapes: &Shapes,
     masks: &[u64],
     order: usize,
     modulus: usize,
@@ -42,28 +39,24 @@ pub fn place_row(
     left: &mut [u64],
     row: &mut [u8],
 ) -> Placement
-    requires tables { Tables generators sites targets.now orders.now }
-    requires taken { Taken path generators sites order targets.now orders.now strides.now rests.now masks.now }
-    requires order_value { order ≡ order_of (generators_in generators sites targets.now orders.now) }
-    requires modulus_value { modulus ≡ modulusOf (generators_in generators sites targets.now orders.now) }
-    requires modes_len { length modes.now ≡ generators }
+    requires tables { HoldsGroup group.now }
+    requires taken { Takes path group.now order shapes.now masks.now }
+    requires order_value { order ≡ order_of (generators_held group.now) }
+    requires modulus_value { modulus ≡ modulusOf (generators_held group.now) }
+    requires modes_len { length modes.now ≡ group.now.generators }
     requires either_length { EitherLength size × (size * i + size ≤ length words.now) }
-    requires accepted_word { AcceptedWord sites (in_full (row_by size words.now i)) }
+    requires accepted_word { AcceptedWord group.now.sites (in_full (row_by size words.now i)) }
     requires left_len { (length left.old ≡ words_of path) × (length row.old ≡ word_length) }
-    ensures answer { result ≡ placement_of (decision (generators_in generators sites targets.now orders.now) modes.now (letters_in sites (in_full (row_by size words.now i)))) }
-    ensures row { row.new ≡ row_word (decision (generators_in generators sites targets.now orders.now) modes.now (letters_in sites (in_full (row_by size words.now i)))) }
+    ensures answer { result ≡ placement_of (decision (generators_held group.now) modes.now (letters_in group.now.sites (in_full (row_by size words.now i)))) }
+    ensures row { row.new ≡ row_word (decision (generators_held group.now) modes.now (letters_in group.now.sites (in_full (row_by size words.now i)))) }
 {
     if size == WORD_BYTES {
         let at = WORD_BYTES * i;
         let end = at + WORD_BYTES;
         return stabilizer::placed_into(
             path,
-            targets,
-            orders,
-            generators,
-            sites,
-            strides,
-            rests,
+            group,
+            shapes,
             masks,
             order,
             modulus,
@@ -75,20 +68,15 @@ pub fn place_row(
     }
     let full = row_lists::checks::row_in_full(words, size, i);
     stabilizer::placed_into(
-        path, targets, orders, generators, sites, strides, rests, masks, order, modulus, modes,
-        &full, left, row,
+        path, group, shapes, masks, order, modulus, modes, &full, left, row,
     )
 }
 
 // Writes for each row its word into the row of the same number, and its index and its orbit size into their places, by the path that the group takes.
 pub fn place_each(
     path: Path,
-    targets: &[u16],
-    orders: &[u32],
-    generators: usize,
-    sites: usize,
-    strides: &[usize],
-    rests: &[usize],
+    group: &Lent<'_>,
+    shapes: &Shapes,
     masks: &[u64],
     order: usize,
     modulus: usize,
@@ -100,46 +88,39 @@ pub fn place_each(
     indices: &mut [usize],
     sizes: &mut [usize],
 )
-    requires tables { Tables generators sites targets.now orders.now }
-    requires taken { Taken path generators sites order targets.now orders.now strides.now rests.now masks.now }
-    requires order_value { order ≡ order_of (generators_in generators sites targets.now orders.now) }
-    requires modulus_value { modulus ≡ modulusOf (generators_in generators sites targets.now orders.now) }
-    requires modes_len { length modes.now ≡ generators }
+    requires tables { HoldsGroup group.now }
+    requires taken { Takes path group.now order shapes.now masks.now }
+    requires order_value { order ≡ order_of (generators_held group.now) }
+    requires modulus_value { modulus ≡ modulusOf (generators_held group.now) }
+    requires modes_len { length modes.now ≡ group.now.generators }
     requires left_len { length left.old ≡ words_of path }
     requires either_length { EitherLength size × (length words.now ≡ size * length indices.old) }
-    requires accepted_rows { AcceptedRows sites (in_full_by size (length indices.old) words.now) (length indices.old) }
+    requires accepted_rows { AcceptedRows group.now.sites (in_full_by size (length indices.old) words.now) (length indices.old) }
     requires representatives_len { length representatives.old ≡ word_length * length indices.old }
     requires sizes_len { length sizes.old ≡ length indices.old }
-    ensures representatives { representatives.new ≡ sector_words (decided_rows (generators_in generators sites targets.now orders.now) modes.now sites (in_full_by size (length indices.old) words.now) (length indices.old)) }
-    ensures indices { indices.new ≡ sector_indices (decided_rows (generators_in generators sites targets.now orders.now) modes.now sites (in_full_by size (length indices.old) words.now) (length indices.old)) }
-    ensures sizes { sizes.new ≡ sector_sizes (decided_rows (generators_in generators sites targets.now orders.now) modes.now sites (in_full_by size (length indices.old) words.now) (length indices.old)) }
+    ensures representatives { representatives.new ≡ sector_words (decided_rows (generators_held group.now) modes.now group.now.sites (in_full_by size (length indices.old) words.now) (length indices.old)) }
+    ensures indices { indices.new ≡ sector_indices (decided_rows (generators_held group.now) modes.now group.now.sites (in_full_by size (length indices.old) words.now) (length indices.old)) }
+    ensures sizes { sizes.new ≡ sector_sizes (decided_rows (generators_held group.now) modes.now group.now.sites (in_full_by size (length indices.old) words.now) (length indices.old)) }
 {
-    let mut i = 0;
-    while i < indices.len() {
+    for i in 0..indices.len() {
         let at = WORD_BYTES * i;
         let end = at + WORD_BYTES;
         let row = &mut representatives[at..end];
         let placement = place_row(
-            path, targets, orders, generators, sites, strides, rests, masks, order, modulus, modes,
-            words, size, i, left, row,
+            path, group, shapes, masks, order, modulus, modes, words, size, i, left, row,
         );
         let index = placement.index();
         let orbit = placement.size();
         indices[i] = index;
         sizes[i] = orbit;
-        i += 1;
     }
 }
 
 // The same, with room for the candidates.
 fn rows_by_path(
     path: Path,
-    targets: &[u16],
-    orders: &[u32],
-    generators: usize,
-    sites: usize,
-    strides: &[usize],
-    rests: &[usize],
+    group: &Lent<'_>,
+    shapes: &Shapes,
     masks: &[u64],
     order: usize,
     modes: &[i32],
@@ -149,29 +130,25 @@ fn rows_by_path(
     indices: &mut [usize],
     sizes: &mut [usize],
 )
-    requires tables { Tables generators sites targets.now orders.now }
-    requires taken { Taken path generators sites order targets.now orders.now strides.now rests.now masks.now × (words_of path ≤ plane_words) }
-    requires order_value { order ≡ order_of (generators_in generators sites targets.now orders.now) }
-    requires modes_len { length modes.now ≡ generators }
+    requires tables { HoldsGroup group.now }
+    requires taken { Takes path group.now order shapes.now masks.now × (words_of path ≤ plane_words) }
+    requires order_value { order ≡ order_of (generators_held group.now) }
+    requires modes_len { length modes.now ≡ group.now.generators }
     requires either_length { EitherLength size × (length words.now ≡ size * length indices.old) }
-    requires accepted_rows { AcceptedRows sites (in_full_by size (length indices.old) words.now) (length indices.old) }
+    requires accepted_rows { AcceptedRows group.now.sites (in_full_by size (length indices.old) words.now) (length indices.old) }
     requires representatives_len { length representatives.old ≡ word_length * length indices.old }
     requires sizes_len { length sizes.old ≡ length indices.old }
-    ensures representatives { representatives.new ≡ sector_words (decided_rows (generators_in generators sites targets.now orders.now) modes.now sites (in_full_by size (length indices.old) words.now) (length indices.old)) }
-    ensures indices { indices.new ≡ sector_indices (decided_rows (generators_in generators sites targets.now orders.now) modes.now sites (in_full_by size (length indices.old) words.now) (length indices.old)) }
-    ensures sizes { sizes.new ≡ sector_sizes (decided_rows (generators_in generators sites targets.now orders.now) modes.now sites (in_full_by size (length indices.old) words.now) (length indices.old)) }
+    ensures representatives { representatives.new ≡ sector_words (decided_rows (generators_held group.now) modes.now group.now.sites (in_full_by size (length indices.old) words.now) (length indices.old)) }
+    ensures indices { indices.new ≡ sector_indices (decided_rows (generators_held group.now) modes.now group.now.sites (in_full_by size (length indices.old) words.now) (length indices.old)) }
+    ensures sizes { sizes.new ≡ sector_sizes (decided_rows (generators_held group.now) modes.now group.now.sites (in_full_by size (length indices.old) words.now) (length indices.old)) }
 {
-    let modulus = elements::index::phase_modulus(targets, orders, generators, sites);
+    let modulus = elements::index::phase_modulus(group);
     let room = path.words();
     let mut left = [0u64; PLANE_WORDS];
     place_each(
         path,
-        targets,
-        orders,
-        generators,
-        sites,
-        strides,
-        rests,
+        group,
+        shapes,
         masks,
         order,
         modulus,
@@ -188,12 +165,8 @@ fn rows_by_path(
 // The same for a path that is found: part by part where that is of use, and else by the path.
 pub fn rows_on(
     path: Path,
-    targets: &[u16],
-    orders: &[u32],
-    generators: usize,
-    sites: usize,
-    strides: &[usize],
-    rests: &[usize],
+    group: &Lent<'_>,
+    shapes: &Shapes,
     masks: &[u64],
     order: usize,
     modes: &[i32],
@@ -203,25 +176,22 @@ pub fn rows_on(
     indices: &mut [usize],
     sizes: &mut [usize],
 )
-    requires tables { Tables generators sites targets.now orders.now }
-    requires taken { Taken path generators sites order targets.now orders.now strides.now rests.now masks.now × (words_of path ≤ plane_words) }
-    requires order_value { order ≡ order_of (generators_in generators sites targets.now orders.now) }
-    requires modes_len { length modes.now ≡ generators }
+    requires tables { HoldsGroup group.now }
+    requires taken { Takes path group.now order shapes.now masks.now × (words_of path ≤ plane_words) }
+    requires order_value { order ≡ order_of (generators_held group.now) }
+    requires modes_len { length modes.now ≡ group.now.generators }
     requires either_length { EitherLength size × (length words.now ≡ size * length indices.old) }
-    requires accepted_rows { AcceptedRows sites (in_full_by size (length indices.old) words.now) (length indices.old) }
+    requires accepted_rows { AcceptedRows group.now.sites (in_full_by size (length indices.old) words.now) (length indices.old) }
     requires representatives_len { length representatives.old ≡ word_length * length indices.old }
     requires sizes_len { length sizes.old ≡ length indices.old }
-    ensures representatives { representatives.new ≡ sector_words (decided_rows (generators_in generators sites targets.now orders.now) modes.now sites (in_full_by size (length indices.old) words.now) (length indices.old)) }
-    ensures indices { indices.new ≡ sector_indices (decided_rows (generators_in generators sites targets.now orders.now) modes.now sites (in_full_by size (length indices.old) words.now) (length indices.old)) }
-    ensures sizes { sizes.new ≡ sector_sizes (decided_rows (generators_in generators sites targets.now orders.now) modes.now sites (in_full_by size (length indices.old) words.now) (length indices.old)) }
+    ensures representatives { representatives.new ≡ sector_words (decided_rows (generators_held group.now) modes.now group.now.sites (in_full_by size (length indices.old) words.now) (length indices.old)) }
+    ensures indices { indices.new ≡ sector_indices (decided_rows (generators_held group.now) modes.now group.now.sites (in_full_by size (length indices.old) words.now) (length indices.old)) }
+    ensures sizes { sizes.new ≡ sector_sizes (decided_rows (generators_held group.now) modes.now group.now.sites (in_full_by size (length indices.old) words.now) (length indices.old)) }
 {
     if by_parts::rows_taken(
         path,
         order,
-        targets,
-        orders,
-        generators,
-        sites,
+        group,
         modes,
         words,
         size,
@@ -233,12 +203,8 @@ pub fn rows_on(
     }
     rows_by_path(
         path,
-        targets,
-        orders,
-        generators,
-        sites,
-        strides,
-        rests,
+        group,
+        shapes,
         masks,
         order,
         modes,
@@ -252,10 +218,7 @@ pub fn rows_on(
 
 // The same for a group: what is found of it is found once for all rows. The rows that are handed have `size` bytes each.
 pub fn place_rows(
-    targets: &[u16],
-    orders: &[u32],
-    generators: usize,
-    sites: usize,
+    group: &Lent<'_>,
     modes: &[i32],
     words: &[u8],
     size: usize,
@@ -263,38 +226,24 @@ pub fn place_rows(
     indices: &mut [usize],
     sizes: &mut [usize],
 )
-    requires tables { Tables generators sites targets.now orders.now }
-    requires modes_len { length modes.now ≡ generators }
+    requires tables { HoldsGroup group.now }
+    requires modes_len { length modes.now ≡ group.now.generators }
     requires either_length { EitherLength size × (length words.now ≡ size * length indices.old) }
-    requires accepted_rows { AcceptedRows sites (in_full_by size (length indices.old) words.now) (length indices.old) }
+    requires accepted_rows { AcceptedRows group.now.sites (in_full_by size (length indices.old) words.now) (length indices.old) }
     requires representatives_len { length representatives.old ≡ word_length * length indices.old }
     requires sizes_len { length sizes.old ≡ length indices.old }
-    ensures representatives { representatives.new ≡ sector_words (decided_rows (generators_in generators sites targets.now orders.now) modes.now sites (in_full_by size (length indices.old) words.now) (length indices.old)) }
-    ensures indices { indices.new ≡ sector_indices (decided_rows (generators_in generators sites targets.now orders.now) modes.now sites (in_full_by size (length indices.old) words.now) (length indices.old)) }
-    ensures sizes { sizes.new ≡ sector_sizes (decided_rows (generators_in generators sites targets.now orders.now) modes.now sites (in_full_by size (length indices.old) words.now) (length indices.old)) }
+    ensures representatives { representatives.new ≡ sector_words (decided_rows (generators_held group.now) modes.now group.now.sites (in_full_by size (length indices.old) words.now) (length indices.old)) }
+    ensures indices { indices.new ≡ sector_indices (decided_rows (generators_held group.now) modes.now group.now.sites (in_full_by size (length indices.old) words.now) (length indices.old)) }
+    ensures sizes { sizes.new ≡ sector_sizes (decided_rows (generators_held group.now) modes.now group.now.sites (in_full_by size (length indices.old) words.now) (length indices.old)) }
 {
-    let order = elements::index::order(targets, orders, generators, sites);
-    let mut strides = [0usize; MAX_GENERATORS];
-    let mut rests = [0usize; MAX_GENERATORS];
+    let order = elements::index::order(group);
+    let mut shapes = Shapes::new();
     let mut masks = [0u64; MASK_WORDS];
-    let path = paths::plan::find_path(
-        targets,
-        orders,
-        generators,
-        sites,
-        order,
-        &mut strides,
-        &mut rests,
-        &mut masks,
-    );
+    let path = paths::plan::find_path(group, order, &mut shapes, &mut masks);
     rows_on(
         path,
-        targets,
-        orders,
-        generators,
-        sites,
-        &strides,
-        &rests,
+        group,
+        &shapes,
         &masks,
         order,
         modes,

@@ -3,9 +3,9 @@ ghost use Rattle.std.specs.Prelude.{◌≡◌, cond, ◌≤◌, eqb, length};
 ghost use Rattle.pauli_word.specs.Limits.{word_length};
 ghost use Rattle.pauli_word.specs.Bytes.{AcceptedWord, letters_in};
 ghost use Rattle.action.specs.Index.{order_of};
-ghost use Rattle.elements.specs.HeldGroup.{generators_in, Tables};
+ghost use Rattle.elements.specs.HeldGroup.{HoldsGroup, generators_held};
 ghost use Rattle.packed.specs.Packed.{plane_words};
-ghost use Rattle.paths.specs.Paths.{Taken, words_of};
+ghost use Rattle.paths.specs.Paths.{words_of, Takes};
 ghost use Rattle.decisions.specs.Decisions.{decision, row_word};
 ghost use Rattle.decisions.specs.Placements.{placement_of};
 
@@ -14,8 +14,9 @@ use decisions::placement::{Placed, Placement};
 use packed::PLANE_WORDS;
 use paths::plan::Path;
 use pauli_word::WORD_BYTES;
-use permutation::MAX_GENERATORS;
+use permutation::Lent;
 use rotation::planes::MASK_WORDS;
+use rotation::shape::Shapes;
 
 // A decision by an index and an orbit size, which is 0 beside a dropped word.
 fn told(index: usize, size: usize) -> Placement
@@ -32,44 +33,34 @@ fn told(index: usize, size: usize) -> Placement
 // dropped.
 fn placed_on(
     path: Path,
-    targets: &[u16],
-    orders: &[u32],
-    generators: usize,
-    sites: usize,
-    strides: &[usize],
-    rests: &[usize],
+    group: &Lent<'_>,
+    shapes: &Shapes,
     masks: &[u64],
     order: usize,
     modes: &[i32],
     word: &[u8],
     out: &mut [u8],
 ) -> Placement
-    requires tables { Tables generators sites targets.now orders.now }
-    requires taken { Taken path generators sites order targets.now orders.now strides.now rests.now masks.now × (words_of path ≤ plane_words) }
-    requires order_value { order ≡ order_of (generators_in generators sites targets.now orders.now) }
-    requires modes_len { length modes.now ≡ generators }
-    requires accepted_word { AcceptedWord sites word.now × (length out.old ≡ word_length) }
-    ensures answer { result ≡ placement_of (decision (generators_in generators sites targets.now orders.now) modes.now (letters_in sites word.now)) }
-    ensures word { out.new ≡ row_word (decision (generators_in generators sites targets.now orders.now) modes.now (letters_in sites word.now)) }
+    requires tables { HoldsGroup group.now }
+    requires taken { Takes path group.now order shapes.now masks.now × (words_of path ≤ plane_words) }
+    requires order_value { order ≡ order_of (generators_held group.now) }
+    requires modes_len { length modes.now ≡ group.now.generators }
+    requires accepted_word { AcceptedWord group.now.sites word.now × (length out.old ≡ word_length) }
+    ensures answer { result ≡ placement_of (decision (generators_held group.now) modes.now (letters_in group.now.sites word.now)) }
+    ensures word { out.new ≡ row_word (decision (generators_held group.now) modes.now (letters_in group.now.sites word.now)) }
 {
     let mut back = [0usize; 1];
     let mut orbit = [0usize; 1];
-    if by_parts::word_taken(
-        path, order, targets, orders, generators, sites, modes, word, out, &mut back, &mut orbit,
-    ) {
+    if by_parts::word_taken(path, order, group, modes, word, out, &mut back, &mut orbit) {
         return told(back[0], orbit[0]);
     }
-    let modulus = elements::index::phase_modulus(targets, orders, generators, sites);
+    let modulus = elements::index::phase_modulus(group);
     let room = path.words();
     let mut left = [0u64; PLANE_WORDS];
     decisions::stabilizer::placed_into(
         path,
-        targets,
-        orders,
-        generators,
-        sites,
-        strides,
-        rests,
+        group,
+        shapes,
         masks,
         order,
         modulus,
@@ -81,39 +72,19 @@ fn placed_on(
 }
 
 // The decision for the group that tables hold, an accepted word and a mode for each generator.
-pub fn placement_of(
-    targets: &[u16],
-    orders: &[u32],
-    generators: usize,
-    sites: usize,
-    word: &[u8],
-    modes: &[i32],
-) -> Placed
-    requires tables { Tables generators sites targets.now orders.now }
-    requires accepted_word { AcceptedWord sites word.now }
-    requires modes_len { length modes.now ≡ generators }
-    ensures answer { result.answer ≡ placement_of (decision (generators_in generators sites targets.now orders.now) modes.now (letters_in sites word.now)) }
-    ensures word { result.word ≡ row_word (decision (generators_in generators sites targets.now orders.now) modes.now (letters_in sites word.now)) }
+pub fn placement_of(group: &Lent<'_>, word: &[u8], modes: &[i32]) -> Placed
+    requires tables { HoldsGroup group.now }
+    requires accepted_word { AcceptedWord group.now.sites word.now }
+    requires modes_len { length modes.now ≡ group.now.generators }
+    ensures answer { result.answer ≡ placement_of (decision (generators_held group.now) modes.now (letters_in group.now.sites word.now)) }
+    ensures word { result.word ≡ row_word (decision (generators_held group.now) modes.now (letters_in group.now.sites word.now)) }
 {
-    let order = elements::index::order(targets, orders, generators, sites);
-    let mut strides = [0usize; MAX_GENERATORS];
-    let mut rests = [0usize; MAX_GENERATORS];
+    let order = elements::index::order(group);
+    let mut shapes = Shapes::new();
     let mut masks = [0u64; MASK_WORDS];
-    let path = paths::plan::find_path(
-        targets,
-        orders,
-        generators,
-        sites,
-        order,
-        &mut strides,
-        &mut rests,
-        &mut masks,
-    );
+    let path = paths::plan::find_path(group, order, &mut shapes, &mut masks);
     let mut least = [0u8; WORD_BYTES];
-    let answer = placed_on(
-        path, targets, orders, generators, sites, &strides, &rests, &masks, order, modes, word,
-        &mut least,
-    );
+    let answer = placed_on(path, group, &shapes, &masks, order, modes, word, &mut least);
     Placed {
         answer,
         word: least,

@@ -15,11 +15,10 @@ use Rattle.outcome.specs.Outcome.{Outcome, answer, Check, verdict, given}
 use Rattle.action.specs.Lists.{same_numbers}
 use Rattle.text.specs.Text.{line_end, before, pieces}
 use Rattle.text.specs.Names.{names_read}
-use Rattle.text.specs.declared.names.Names.TheVariants as Names
+use Rattle.std.specs.Prelude.{None}
 use Rattle.text.proofs.Pieces.{pieces_last, pieces-some}
 use Rattle.text.proofs.Lines.{Ended, ended-pieces, names-other}
 use Rattle.outcome.proofs.Outcomes.{verdict-append}
-use Rattle.sheet_lines.specs.declared.LineVerdict.TheVariants as LineVerdict
 use Rattle.sheet_lines.specs.declared.head.Head.{Head}
 use Rattle.sheet_lines.specs.Lines.{shape_names, word_names, modes_of, line_shape, line_sites, shape_checks, body_checks, third_checks, second_checks, line_checks}
 use Rattle.sheet_lines.specs.Parts.{refused_at, line_group, Ready}
@@ -55,7 +54,7 @@ module _ (text : List ℕ) (k : ℕ) (at : Ended text k) where
       ∙ ap (λ (ps : List (List ℕ)). cond (not (same_numbers (take k text) word_names)) (refused_at Refusal.LineForm 3) (verdict (body_checks m n ps 4))) (sym s.2)
 
 -- the first line
-pub first_other_lem : (text : List ℕ) → names_read shape_names text ≡ Names.Other → refused_at Refusal.LineForm 1 ≡ verdict (line_checks (pieces line_end text))
+pub first_other_lem : (text : List ℕ) → names_read shape_names text ≡ None → refused_at Refusal.LineForm 1 ≡ verdict (line_checks (pieces line_end text))
 unfolding line_checks
 first_other_lem text e = go (names-other shape_names text e)
   where
@@ -98,7 +97,7 @@ module _ (text : List ℕ) (k : ℕ) (at : Ended text k) where
       given v (verdict (third_checks (modes_of (line_shape (take k text))) (line_sites (take k text)) (pieces line_end (drop (k + 1) text))))) e
 
 -- the third
-pub third_other : (m n : ℕ) (text : List ℕ) → names_read word_names text ≡ Names.Other
+pub third_other : (m n : ℕ) (text : List ℕ) → names_read word_names text ≡ None
     → refused_at Refusal.LineForm 3 ≡ verdict (third_checks m n (pieces line_end text))
 unfolding third_checks
 third_other m n text e = go (names-other word_names text e)
@@ -119,19 +118,6 @@ third_passes m n text k at s =
     ∙ ap (λ (t : Bool). cond (not t) (refused_at Refusal.LineForm 3) (verdict (body_checks m n (pieces line_end (drop (k + 1) text)) 4))) s
 
 -- ---- what is handed back
-
--- a rule broken in the first three lines
-pub head_refused : (input : List ℕ) (r : Head) (why : Refusal) (line : ℕ) → r.answer ≡ LineVerdict.Refused why line → line ≤ 3
-    → refused_at why line ≡ verdict (line_checks (pieces line_end input))
-    → ((w : Refusal) (k : ℕ) → r.answer ≡ LineVerdict.Refused w k → (refused_at w k ≡ verdict (line_checks (pieces line_end input))) × (k ≤ 3))
-    × (r.answer ≡ LineVerdict.Accepted → Ready input r)
-head_refused input r why line a l e = (
-  (λ w k h.
-      let p : why ≡ w = cc in
-      let q : line ≡ k = cc in
-      (ap₂ refused_at (sym p) (sym q) ∙ e, omega arith)),
-  λ z. let no : ◌≡◌ {A = ℕ} 0 1 = cc in absurd (omega arith),
-)
 
 -- the three lines end at a, b and c, each in what follows the one before
 module _ (input text rest : List ℕ) (a b c : ℕ) (x : Ended input a) (first : text ≡ drop (a + 1) input) (y : Ended text b)

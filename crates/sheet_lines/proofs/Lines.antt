@@ -1,40 +1,40 @@
 -- The checks of one line: its shape and sides, its word and modes; and the lattice of sides that are read up to a cap.
 -- What carries it: sides of few sites are below the cap, so that their lattice is that of the numbers; and where one is 0 or their product is too
 -- large, the same holds of the numbers (`large-same`).
+use Rattle.std.specs.Prelude.{Option, Some, None, is_some, Result, Ok, Err, IfOk}
 use Prim.Native.Nat.{ℕ, zero, suc, ◌+◌, ◌-◌, ◌*◌, ◌≤◌, ◌<◌, min}
 use mathlib.Core.Path.{◌≡◌, refl, sym, ap, ap₂, subst, ◌∙◌}
-use mathlib.Core.Bool.{Bool, true, false, ◌&&◌, not, cond, false≢true, true≢false}
+use mathlib.Core.Bool.{Bool, true, false, ◌&&◌, not, cond, false≢true, true≢false, and-eq-true_iff}
 use mathlib.Core.List.{List, [], ◌∷◌}
 use native.Mathlib.Nat.{mul-one, mul_assoc}
 use native.Mathlib.Omega.{arith}
 use lib.Dec.{eqb, ltb}
 use lib.IntN.{ℤ, pos}
 use lib.ListN.{length, get_or, take, drop, length-map}
+use mir.Syntax.{w32}
+use mir.Val.{of_z, to_z}
+use mir.ValLaws.{to_z-of_z}
 use borrow.Author.Tests.{eqb-true, eqb-false, eq-eqb, ne_eqb, ltb-true, ltb-false, not-false}
 use Rattle.pauli_word.specs.Limits.{max_sites}
 use Rattle.outcome.specs.declared.Refusal.{Refusal}
 use Rattle.outcome.specs.declared.Refusal.TheVariants as Refusal
-use Rattle.outcome.specs.declared.Verdict.{Verdict}
-use Rattle.outcome.specs.declared.Verdict.TheVariants as Verdict
-use Rattle.outcome.specs.Outcome.{Outcome, refused, answer, verdict, given, on_answer, or_else, done, itself, outcome_of_verdict, refusal_of, rule, unless}
+use Rattle.outcome.specs.Outcome.{Outcome, refused, answer, verdict, given, on_answer, outcome_of, refusal_of, rule, unless}
 use Rattle.pauli_word.specs.Word.{Word}
 use Rattle.pauli_word.specs.Text.{letter, letters_alone, first_other, read_text}
-use Rattle.pauli_word.specs.Calls.{from_text_outcome}
+use Rattle.pauli_word.specs.declared.TextWord.{TextWord}
+use Rattle.pauli_word.specs.Calls.{from_text_outcome, text_word}
 use Rattle.action.specs.Lists.{every, same_numbers}
 use Rattle.action.specs.Permutation.{Generator}
 use Rattle.action.specs.Lattice.{chain, ladder, torus2, torus3}
 use Rattle.generators.specs.Parts.{any_zero}
 use Rattle.group.specs.declared.Group.{Group}
-use Rattle.group.specs.declared.Made.{Made}
-use Rattle.group.specs.Value.{group_of, no_group}
+use Rattle.group.specs.Value.{group_of}
 use Rattle.group.specs.Calls.{lattice_outcome, chain_outcome, ladder_outcome, torus2_outcome, torus3_outcome}
 use Rattle.generators.proofs.Axes.{side-small}
-use Rattle.text.specs.Text.{is_number, number_of, is_mode, signed_of}
+use Rattle.text.specs.Text.{is_number, number_of, is_signed, in_modes, is_mode, signed_of}
 use Rattle.text.specs.Parts.{cap, mode_read, four_fields, field_length, fields_read}
-use Rattle.text.specs.declared.read.Mode.TheVariants as Mode
-use Rattle.text.specs.declared.read.Fields.TheVariants as Fields
-use Rattle.text.proofs.Pieces.{part, FourParts, four_parts, parts-four}
-use Rattle.text.proofs.Numbers.{capped_zero, zero_capped}
+use Rattle.text.proofs.Pieces.{part, FourParts, parts-four}
+use Rattle.text.proofs.Numbers.{capped_zero, zero_capped, modes_fit_lem}
 use Rattle.sheet_lines.specs.declared.line.Kind.{Kind}
 use Rattle.sheet_lines.specs.declared.line.Kind.TheVariants as Kind
 use Rattle.sheet_lines.specs.declared.line.Shape.{Shape}
@@ -121,51 +121,30 @@ fits_three test (suc (suc (suc (suc k)))) x y z h = absurd (omega arith)
 -- ---- modes
 
 module _ (text : List ℕ) where
-  pub mode-is : (k : ℤ) → mode_read text ≡ Mode.Value k → is_mode text ≡ true
-  mode-is k e = go (is_mode text) e
+  pub mode-some : is_some (mode_read text) ≡ is_mode text
+  mode-some = go (is_mode text)
     where
-      go : (b : Bool) → cond b (Mode.Value (signed_of text)) Mode.Other ≡ Mode.Value k → b ≡ true
-      go true f = refl
-      go false f = let z : ◌≡◌ {A = ℕ} 0 1 = cc in absurd (omega arith)
+      go : (b : Bool) → is_some (cond b (Some (signed_of text)) None) ≡ b
+      go true = refl
+      go false = refl
 
-  pub mode-not : mode_read text ≡ Mode.Other → is_mode text ≡ false
-  mode-not e = go (is_mode text) e
+  pub mode-value : (k : ℤ) → mode_read text ≡ Some k → to_z w32 (of_z w32 k) ≡ mode_or_zero text
+  unfolding is_mode
+  mode-value k e = go (is_mode text) refl e
     where
-      go : (b : Bool) → cond b (Mode.Value (signed_of text)) Mode.Other ≡ Mode.Other → b ≡ false
+      go : (b : Bool) → is_mode text ≡ b → cond b (Some (signed_of text)) None ≡ Some k → to_z w32 (of_z w32 k) ≡ cond b (signed_of text) (pos 0)
+      go true f g =
+          let same : signed_of text ≡ k = cc in
+          let fits = modes_fit_lem (signed_of text) ((and-eq-true_iff (is_signed text) (in_modes (signed_of text))).0 f).1 in
+          ap (λ (z : ℤ). to_z w32 (of_z w32 z)) (sym same) ∙ to_z-of_z w32 (signed_of text) fits
+      go false f g = let z : ◌≡◌ {A = ℕ} 0 1 = cc in absurd (omega arith)
+
+  pub mode-zero : mode_read text ≡ None → pos 0 ≡ mode_or_zero text
+  mode-zero e = go (is_mode text) e
+    where
+      go : (b : Bool) → cond b (Some (signed_of text)) None ≡ None → pos 0 ≡ cond b (signed_of text) (pos 0)
       go true f = let z : ◌≡◌ {A = ℕ} 0 1 = cc in absurd (omega arith)
       go false f = refl
-
-  pub mode-value : (k : ℤ) → mode_read text ≡ Mode.Value k → k ≡ mode_or_zero text
-  mode-value k e = go (is_mode text) e
-    where
-      go : (b : Bool) → cond b (Mode.Value (signed_of text)) Mode.Other ≡ Mode.Value k → k ≡ cond b (signed_of text) (pos 0)
-      go true f = cc
-      go false f = let z : ◌≡◌ {A = ℕ} 0 1 = cc in absurd (omega arith)
-
-  pub mode-zero : mode_read text ≡ Mode.Other → pos 0 ≡ mode_or_zero text
-  mode-zero e = simp (mode-not e)
-
--- ---- a lattice that was made
-
-pub made_shape :
-    (r : Shape) (kind : Kind) (a b c : ℕ) (made : Made) (o : Outcome Group) → lattice_for kind a b c ≡ o
-    → outcome_of_verdict made.answer ≡ on_answer done o → made.group ≡ or_else itself no_group o
-    → (r.answer ≡ made.answer) × (r.kind ≡ kind) × (r.group ≡ made.group)
-    → (outcome_of_verdict r.answer ≡ on_answer done (lattice_for kind a b c)) × ((r.kind ≡ kind) × (r.group ≡ or_else itself no_group (lattice_for kind a b c)))
-made_shape r kind a b c made o e x y (p, q, g) =
-    (ap outcome_of_verdict p ∙ x ∙ ap (on_answer done) (sym e), (q, g ∙ y ∙ ap (or_else itself no_group) (sym e)))
-
--- no shape
-pub none_shape :
-    (r : Shape) (kind : Kind) (a b c : ℕ) → kind ≡ Kind.Other → (r.answer ≡ Verdict.Refused Refusal.LineForm) × (r.kind ≡ Kind.Other) × (r.group ≡ no_group)
-    → (outcome_of_verdict r.answer ≡ on_answer done (lattice_for kind a b c)) × ((r.kind ≡ kind) × (r.group ≡ or_else itself no_group (lattice_for kind a b c)))
-none_shape r kind a b c e (p, q, g) =
-    let f : lattice_for kind a b c ≡ refusal_of Refusal.LineForm = ap (λ (k : Kind). lattice_for k a b c) e in
-    (ap outcome_of_verdict p ∙ ap (on_answer done) (sym f), (q ∙ sym e, g ∙ ap (or_else itself no_group) (sym f)))
-
--- a refused line is not accepted
-pub refused_accepted : {why : Refusal} → Verdict.Refused why ≡ Verdict.Accepted → ⊥
-refused_accepted e = let z : ◌≡◌ {A = ℕ} 0 1 = cc in omega arith
 
 -- ---- sides that are read up to the cap
 
@@ -235,7 +214,7 @@ two_rules none large k = verdict (rule_at Refusal.ZeroSide none k ∷ rule_at Re
 
 -- an outcome has the verdict of the two rules, and where it is an answer, it is this group
 abbrev Agrees : Outcome Group → Bool → Bool → Group → Type 0
-Agrees o none large g = ((k : ℕ) → at_line k o ≡ two_rules none large k) × (on_answer done o ≡ answer tt → or_else itself no_group o ≡ g)
+Agrees o none large g = ((k : ℕ) → at_line k o ≡ two_rules none large k) × ((h : Group) → answer h ≡ o → h ≡ g)
 
 agrees : (n : ℕ) (gs : List Generator) (none large : Bool) (g : Group)
     → (none ≡ false → ltb max_sites n ≡ large) → (none ≡ false → large ≡ false → group_of n gs ≡ g) → Agrees (lattice_outcome none n gs) none large g
@@ -244,11 +223,11 @@ agrees n gs none large g h i = go (ltb max_sites n) none large h i
   where
     go : (l z m : Bool) → (z ≡ false → l ≡ m) → (z ≡ false → m ≡ false → group_of n gs ≡ g)
         → Agrees (given (cond z (refusal_of Refusal.ZeroSide) (cond l (refusal_of Refusal.SidesTooLarge) (answer (tt {0})))) (answer (group_of n gs))) z m g
-    go l true m h i = ((λ k. refl), λ e. absurd (refused_apart _ _ tt e))
-    go true false true h i = ((λ k. refl), λ e. absurd (refused_apart _ _ tt e))
+    go l true m h i = ((λ k. refl), λ h e. absurd (refused_apart _ _ h (sym e)))
+    go true false true h i = ((λ k. refl), λ h e. absurd (refused_apart _ _ h (sym e)))
     go true false false h i = absurd (true≢false (h refl))
     go false false true h i = absurd (false≢true (h refl))
-    go false false false h i = ((λ k. refl), λ e. i refl refl)
+    go false false false h i = ((λ k. refl), λ h e. let same : h ≡ group_of n gs = cc in same ∙ i refl refl)
 
 -- a lattice of n sites with these sides; N and GS are those of the numbers
 module _ (p q r x y z : ℕ) (ex : x ≡ min p cap) (ey : y ≡ min q cap) (ez : z ≡ min r cap) where
@@ -265,7 +244,7 @@ module _ (p q r x y z : ℕ) (ex : x ≡ min p cap) (ey : y ≡ min q cap) (ez :
 -- the two rules of sides, and the group of a shape, met by what its lattice comes to
 abbrev Met : Kind → List ℕ → List ℕ → List ℕ → Outcome Group → Type 0
 Met kind a b c o =
-    ((k : ℕ) → at_line k o ≡ verdict (side_checks kind (a ∷ b ∷ c ∷ []) k)) × (on_answer done o ≡ answer tt → or_else itself no_group o ≡ sides_group kind a b c)
+    ((k : ℕ) → at_line k o ≡ verdict (side_checks kind (a ∷ b ∷ c ∷ []) k)) × ((g : Group) → answer g ≡ o → g ≡ sides_group kind a b c)
 
 -- sides that fit: 26, 27
 sides_decide : (kind : Kind) (texts : List (List ℕ)) (k : ℕ) → is_shape kind ≡ true → first_pass is_number (sides_of kind) texts ≡ true
@@ -324,11 +303,7 @@ module _ (a b c : List ℕ) (x y z : ℕ) (ex : x ≡ min (number_of a) cap) (ey
 
   other-met : Met Kind.Other a b c (refusal_of Refusal.LineForm)
   unfolding side_checks
-  other-met = ((λ k. refl), λ e. absurd (refused_apart _ _ tt e))
-
-  line-done : (k : ℕ) (o : Outcome Group) → at_line k (on_answer done o) ≡ at_line k o
-  line-done k (refused number vs) = refl
-  line-done k (answer g) = refl
+  other-met = ((λ k. refl), λ g e. absurd (refused_apart _ _ g (sym e)))
 
   -- the lattice of capped sides that fit
   sides-met : (kind : Kind) → first_pass is_number (sides_of kind) (a ∷ b ∷ c ∷ []) ≡ true → Met kind a b c (lattice_for kind x y z)
@@ -338,19 +313,20 @@ module _ (a b c : List ℕ) (x y z : ℕ) (ex : x ≡ min (number_of a) cap) (ey
   sides-met Kind.Torus3 f = torus3-met f
   sides-met Kind.Other f = other-met
 
-  pub shape-made-of : (kind : Kind) (r : Shape) → first_pass is_number (sides_of kind) (a ∷ b ∷ c ∷ []) ≡ true
-      → outcome_of_verdict r.answer ≡ on_answer done (lattice_for kind x y z) → (r.kind ≡ kind) × (r.group ≡ or_else itself no_group (lattice_for kind x y z))
-      → ((k : ℕ) → at_line k (outcome_of_verdict r.answer) ≡ verdict (side_checks kind (a ∷ b ∷ c ∷ []) k))
-      × (r.answer ≡ Verdict.Accepted → (r.kind ≡ kind) × (r.group ≡ sides_group kind a b c))
-  shape-made-of kind r f e (k, g) =
-      let m = sides-met kind f in
-      ((λ i. ap (at_line i) e ∙ line-done i (lattice_for kind x y z) ∙ m.0 i), λ h. (k, g ∙ m.1 (sym e ∙ ap outcome_of_verdict h)))
+  module _ (kind : Kind) (fit : first_pass is_number (sides_of kind) (a ∷ b ∷ c ∷ []) ≡ true) where
+    pub sides-refused : (why : Refusal) → refusal_of why ≡ lattice_for kind x y z
+        → (k : ℕ) → refused_at why k ≡ verdict (side_checks kind (a ∷ b ∷ c ∷ []) k)
+    sides-refused why e k = ap (at_line k) e ∙ (sides-met kind fit).0 k
+
+    pub sides-made : (g : Group) → answer g ≡ lattice_for kind x y z
+        → ((k : ℕ) → answer tt ≡ verdict (side_checks kind (a ∷ b ∷ c ∷ []) k)) × (g ≡ sides_group kind a b c)
+    sides-made g e = let m = sides-met kind fit in ((λ k. ap (at_line k) e ∙ m.0 k), m.1 g e)
 
 -- sides that do not fit: 31
-pub sides_unfit : (kind : Kind) (texts : List (List ℕ)) (v : Verdict) → v ≡ Verdict.Refused Refusal.LineForm → first_pass is_number (sides_of kind) texts ≡ false
-    → (k : ℕ) → at_line k (outcome_of_verdict v) ≡ verdict (side_checks kind texts k)
+pub sides_unfit : (kind : Kind) (texts : List (List ℕ)) → first_pass is_number (sides_of kind) texts ≡ false
+    → (k : ℕ) → refused_at Refusal.LineForm k ≡ verdict (side_checks kind texts k)
 unfolding side_checks
-sides_unfit kind texts v e f k = ap (λ (u : Verdict). at_line k (outcome_of_verdict u)) e ∙ go (is_shape kind)
+sides_unfit kind texts f k = go (is_shape kind)
   where
     go : (s : Bool) → refused_at Refusal.LineForm k
         ≡ cond (not (s && first_pass is_number (sides_of kind) texts)) (refused_at Refusal.LineForm k)
@@ -373,33 +349,33 @@ module _ (sites : ℕ) (word : List ℕ) where
       ∷ rule_at Refusal.OtherSites (not (eqb (length word) sites)) k
       ∷ [])
 
-  pub word-refused : (why : Refusal) → refusal_of why ≡ on_answer length (from_text_outcome word)
+  pub word-refused : (why : Refusal) → refusal_of why ≡ on_answer text_word (from_text_outcome word)
       → (k : ℕ) → refused_at why k ≡ verdict (letter_checks sites word k)
   unfolding from_text_outcome
   word-refused why e k = go (ltb max_sites (length word)) (letters_alone word) e
     where
-      go : (l t : Bool) → refusal_of why ≡ on_answer length (read_as l t) → refused_at why k ≡ word_rules l t k
+      go : (l t : Bool) → refusal_of why ≡ on_answer text_word (read_as l t) → refused_at why k ≡ word_rules l t k
       go true t f = ap (at_line k) f
       go false true f = absurd (refused_apart _ _ _ f)
       go false false f = ap (at_line k) f
 
   -- letters alone, and as many as were read
-  word_read : (n : ℕ) → answer n ≡ on_answer length (from_text_outcome word)
-      → (n ≡ length word) × ((k : ℕ) → verdict (letter_checks sites word k) ≡ word_rules false true k)
+  word_read : (n : TextWord) → answer n ≡ on_answer text_word (from_text_outcome word)
+      → (n.sites ≡ length word) × ((k : ℕ) → verdict (letter_checks sites word k) ≡ word_rules false true k)
   unfolding from_text_outcome
   word_read n e = go (ltb max_sites (length word)) (letters_alone word) e
     where
-      go : (l t : Bool) → answer n ≡ on_answer length (read_as l t) → (n ≡ length word) × ((k : ℕ) → word_rules l t k ≡ word_rules false true k)
+      go : (l t : Bool) → answer n ≡ on_answer text_word (read_as l t) → (n.sites ≡ length word) × ((k : ℕ) → word_rules l t k ≡ word_rules false true k)
       go true t f = absurd (refused_apart _ _ n (sym f))
       go false false f = absurd (refused_apart _ _ n (sym f))
-      go false true f = let z : n ≡ length (read_text word) = cc in (z ∙ length-map word letter, λ k. refl)
+      go false true f = let z : n ≡ text_word (read_text word) = cc in (ap (λ (w : TextWord). w.sites) z ∙ length-map word letter, λ k. refl)
 
-  pub word_same : (n : ℕ) → answer n ≡ on_answer length (from_text_outcome word) → n ≡ sites → (k : ℕ) → answer tt ≡ verdict (letter_checks sites word k)
+  pub word_same : (n : TextWord) → answer n ≡ on_answer text_word (from_text_outcome word) → n.sites ≡ sites → (k : ℕ) → answer tt ≡ verdict (letter_checks sites word k)
   word_same n e h k =
       let r = word_read n e in
       sym (r.1 k ∙ ap (λ (t : Bool). cond (not t) (refused_at Refusal.OtherSites k) (answer tt)) (eq-eqb (length word) sites (sym r.0 ∙ h)))
 
-  pub word-sites : (n : ℕ) → answer n ≡ on_answer length (from_text_outcome word) → (n ≡ sites → ⊥)
+  pub word-sites : (n : TextWord) → answer n ≡ on_answer text_word (from_text_outcome word) → (n.sites ≡ sites → ⊥)
       → (k : ℕ) → refused_at Refusal.OtherSites k ≡ verdict (letter_checks sites word k)
   word-sites n e h k =
       let r = word_read n e in
@@ -407,32 +383,16 @@ module _ (sites : ℕ) (word : List ℕ) where
 
 -- ---- the fields of a line
 
-same_parts : (line : List ℕ) (a b c d e f : ℕ) → a ≡ d → b ≡ e → c ≡ f → FourParts line a b c → FourParts line d e f
-same_parts line a b c d e f p q r h =
-    subst (λ (k : ℕ). FourParts line d e k) r (subst (λ (k : ℕ). FourParts line d k c) q (subst (λ (k : ℕ). FourParts line k b c) p h))
-
-pub fields_four : (line : List ℕ) (a b c : ℕ) → fields_read line ≡ Fields.Four a b c → FourParts line a b c
-fields_four line a b c e = go (four_fields line) refl e
-  where
-    go : (t : Bool) → four_fields line ≡ t
-        → cond t (Fields.Four (field_length line 0) (field_length line 0 + 1 + field_length line 1)
-        (field_length line 0 + 1 + field_length line 1 + 1 + field_length line 2)) Fields.Other
-        ≡ Fields.Four a b c
-        → FourParts line a b c
-    go true f g =
-        let p : field_length line 0 ≡ a = cc in
-        let q : field_length line 0 + 1 + field_length line 1 ≡ b = cc in
-        let r : field_length line 0 + 1 + field_length line 1 + 1 + field_length line 2 ≡ c = cc in
-        same_parts line _ _ _ a b c p q r (four_parts line f)
-    go false f g = let no : ◌≡◌ {A = ℕ} 0 1 = cc in absurd (omega arith)
-
-pub fields-other : (line : List ℕ) → fields_read line ≡ Fields.Other → four_fields line ≡ false
+pub fields-other : (line : List ℕ) → fields_read line ≡ None → four_fields line ≡ false
 fields-other line e = go (four_fields line) e
   where
     go : (t : Bool)
-        → cond t (Fields.Four (field_length line 0) (field_length line 0 + 1 + field_length line 1)
-        (field_length line 0 + 1 + field_length line 1 + 1 + field_length line 2)) Fields.Other
-        ≡ Fields.Other
+        → cond {A = Option (ℕ × ℕ × ℕ)} t (Some (
+          field_length line 0,
+          field_length line 0 + 1 + field_length line 1,
+          field_length line 0 + 1 + field_length line 1 + 1 + field_length line 2,
+        )) None
+        ≡ None
         → t ≡ false
     go true g = let no : ◌≡◌ {A = ℕ} 0 1 = cc in absurd (omega arith)
     go false g = refl
@@ -442,9 +402,8 @@ fields-other line e = go (four_fields line) e
 pub value_other : (used sites : ℕ) (line : List ℕ) → four_fields line ≡ false → (k : ℕ) → refused_at Refusal.LineForm k ≡ verdict (value_checks used sites line k)
 value_other used sites line f k = simp f
 
-pub shape_other : (line : List ℕ) (v : Verdict) → v ≡ Verdict.Refused Refusal.LineForm → four_fields line ≡ false
-    → (k : ℕ) → at_line k (outcome_of_verdict v) ≡ verdict (shape_checks line k)
-shape_other line v e f k = ap (λ (u : Verdict). at_line k (outcome_of_verdict u)) e ∙ simp f
+pub shape_other : (line : List ℕ) → four_fields line ≡ false → (k : ℕ) → refused_at Refusal.LineForm k ≡ verdict (shape_checks line k)
+shape_other line f k = simp f
 
 -- the three fields after the first
 abbrev pub three_parts : List ℕ → ℕ → ℕ → ℕ → List (List ℕ)
@@ -473,12 +432,10 @@ module _ (line : List ℕ) (a b c : ℕ) (four : FourParts line a b c) where
       sym (value-decides used sites k
       ∙ ap (λ (t : Bool). cond (not t) (refused_at Refusal.LineForm k) (verdict (letter_checks sites (take a line) k))) f)
 
-  pub shape-fields : (kind : Kind) (r : Shape) → kind ≡ shape_of (take a line)
-      → ((k : ℕ) → at_line k (outcome_of_verdict r.answer) ≡ verdict (side_checks kind (three_parts line a b c) k))
-      → (r.answer ≡ Verdict.Accepted → (r.kind ≡ kind)
-      × (r.group ≡ sides_group kind (part (a + 1) b line) (part (b + 1) c line) (part (c + 1) (length line) line)))
-      → ((k : ℕ) → at_line k (outcome_of_verdict r.answer) ≡ verdict (shape_checks line k))
-      × (r.answer ≡ Verdict.Accepted → (r.kind ≡ line_shape line) × (r.group ≡ line_group line))
+  pub shape-fields : (kind : Kind) (r : Result Shape Refusal) → kind ≡ shape_of (take a line)
+      → ((k : ℕ) → at_line k (outcome_of r) ≡ verdict (side_checks kind (three_parts line a b c) k))
+      → IfOk r (λ s. (s.kind ≡ kind) × (s.group ≡ sides_group kind (part (a + 1) b line) (part (b + 1) c line) (part (c + 1) (length line) line)))
+      → ((k : ℕ) → at_line k (outcome_of r) ≡ verdict (shape_checks line k)) × IfOk r (λ s. (s.kind ≡ line_shape line) × (s.group ≡ line_group line))
   shape-fields kind r e x y =
       let s : line_shape line ≡ kind = ap (λ (ps : List (List ℕ)). shape_of (get_or ps 0 [])) four.parts ∙ sym e in
       let checks : (k : ℕ) → verdict (shape_checks line k) ≡ verdict (side_checks kind (three_parts line a b c) k) =
@@ -487,4 +444,9 @@ module _ (line : List ℕ) (a b c : ℕ) (four : FourParts line a b c) where
       let group : line_group line ≡ sides_group kind (part (a + 1) b line) (part (b + 1) c line) (part (c + 1) (length line) line) =
       λ i. sides_group (s i) (get_or (four.parts i) 1 []) (get_or (four.parts i) 2 []) (get_or (four.parts i) 3 [])
       in
-      ((λ k. x k ∙ sym (checks k)), λ z. ((y z).0 ∙ sym s, (y z).1 ∙ sym group))
+      ((λ k. x k ∙ sym (checks k)), go r s group y)
+    where
+      go : (r : Result Shape Refusal) {m n : Kind} {g h : Group} → m ≡ n → g ≡ h
+          → IfOk r (λ s. (s.kind ≡ n) × (s.group ≡ h)) → IfOk r (λ s. (s.kind ≡ m) × (s.group ≡ g))
+      go (Ok shape) e f (p, q) = (p ∙ sym e, q ∙ sym f)
+      go (Err why) e f t = tt

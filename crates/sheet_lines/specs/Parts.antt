@@ -1,5 +1,5 @@
 -- What the functions that read lines come to.
-use Rattle.std.specs.Prelude.{ℕ, ◌≤◌, ◌≡◌, Bool, cond, List, [], ◌∷◌, ℤ, pos, length, get_or, drop}
+use Rattle.std.specs.Prelude.{ℕ, ◌≤◌, ◌≡◌, Bool, cond, List, [], ◌∷◌, ℤ, pos, length, get_or, drop, Result, Ok, Err}
 use Rattle.outcome.specs.declared.Refusal.{Refusal}
 use Rattle.outcome.specs.declared.Refusal.TheVariants as Refusal
 use Rattle.outcome.specs.Outcome.{Outcome, refused, answer, rule_number, rule_values, refusal_of, verdict}
@@ -11,8 +11,7 @@ use Rattle.group.specs.Calls.{chain_outcome, ladder_outcome, torus2_outcome, tor
 use Rattle.text.specs.Text.{line_end, pieces, number_of, is_mode, signed_of}
 use Rattle.sheet_lines.specs.declared.line.Kind.{Kind}
 use Rattle.sheet_lines.specs.declared.line.Kind.TheVariants as Kind
-use Rattle.sheet_lines.specs.declared.LineVerdict.{LineVerdict}
-use Rattle.sheet_lines.specs.declared.LineVerdict.TheVariants as LineVerdict
+use Rattle.sheet_lines.specs.declared.LineFault.{LineFault}
 use Rattle.sheet_lines.specs.declared.head.Head.{Head}
 use Rattle.sheet_lines.specs.Lines.{zero_text, modes_of, generators_for, field, line_shape, sides_used, line_sites, shape_checks, body_checks, line_checks}
 
@@ -26,9 +25,9 @@ at_line line (refused number vs) = refused number (line ∷ vs)
 at_line line (answer a) = answer tt
 
 -- what the checks of lines come to
-abbrev pub outcome_of_lines : LineVerdict → Outcome (Unit {0})
-outcome_of_lines LineVerdict.Accepted = answer tt
-outcome_of_lines (LineVerdict.Refused why line) = refused_at why line
+abbrev pub outcome_of_lines : {A : Type 0} → Result A LineFault → Outcome A
+outcome_of_lines (Ok a) = answer a
+outcome_of_lines (Err fault) = refused_at fault.why fault.line
 
 -- a text that is used passes a test, and one that is not is 0
 abbrev pub fits_where : (List ℕ → Bool) → Bool → List ℕ → Bool

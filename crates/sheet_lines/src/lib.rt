@@ -7,10 +7,9 @@ pub mod line;
 
 use outcome::Refusal;
 
-// What the checks of a sheet's lines come to.
+// A line that breaks a rule: why, and which line.
 #[derive(Clone, Copy)]
-pub enum LineVerdict {
-    Accepted,
-    // Why, and at which line.
-    Refused(Refusal, usize),
+pub struct LineFault {
+    pub why: Refusal,
+    pub line: usize,
 }

@@ -1,14 +1,12 @@
 // One line of a sheet: the rule that it breaks, its shape with its group, its modes. Whoever calls a function here owes its `requires`.
-ghost use Rattle.std.specs.Prelude.{◌≡◌, ◌&&◌, [], ◌∷◌, ℕ, ◌≤◌};
+ghost use Rattle.std.specs.Prelude.{◌≡◌, ◌&&◌, [], ◌∷◌, ℕ, ◌≤◌, IfOk};
 ghost use Rattle.text.specs.Text.{is_number, is_mode};
-ghost use Rattle.outcome.specs.Outcome.{verdict, outcome_of_verdict, on_answer, done, itself, or_else};
-ghost use Rattle.group.specs.Value.{no_group};
+ghost use Rattle.outcome.specs.Outcome.{verdict, outcome_of};
 ghost use Rattle.sheet_lines.specs.Lines.{shape_of, sides_of, modes_of, first_pass, line_shape, side_checks, shape_checks, letter_checks, value_checks};
 ghost use Rattle.sheet_lines.specs.Parts.{at_line, fits_where, mode_or_zero, lattice_for, sides_group, line_group};
 
-use group::{Group, Made};
-use outcome::{Number, Refusal, Verdict};
-use text::read::{Fields, Mode};
+use group::Group;
+use outcome::Refusal;
 
 // The shape of a lattice.
 #[derive(Clone, Copy)]
@@ -20,10 +18,9 @@ pub enum Kind {
     Other,
 }
 
-// The shape of a line with its group, or the rule that the line breaks.
+// The shape of a line with its group.
 #[derive(Clone, Copy)]
 pub struct Shape {
-    pub answer: Verdict,
     pub kind: Kind,
     pub group: Group,
 }
@@ -88,7 +85,7 @@ pub fn side_fits(used: bool, text: &[u8]) -> bool
 pub fn all(a: bool, b: bool, c: bool) -> bool
     ensures { result ≡ (a && (b && c)) }
 {
-    if a { if b { c } else { false } } else { false }
+    a && b && c
 }
 
 // The first sides are numbers, and the others 0.
@@ -110,10 +107,7 @@ pub fn mode_fits(used: bool, text: &[u8]) -> bool
     if !used {
         return text::read::same(b"0", text);
     }
-    match text::read::read_mode(text) {
-        Mode::Value(_) => true,
-        Mode::Other => false,
-    }
+    text::read::read_mode(text).is_some()
 }
 
 // The first modes are modes, and the others 0.
@@ -132,57 +126,29 @@ pub fn modes_fit(used: usize, a: &[u8], b: &[u8], c: &[u8]) -> bool
 pub fn mode_or_zero(text: &[u8]) -> i32
     ensures { result ≡ mode_or_zero text.now }
 {
-    match text::read::read_mode(text) {
-        Mode::Value(k) => k,
-        Mode::Other => 0,
-    }
+    text::read::read_mode(text).unwrap_or(0)
 }
 
 // The group of a shape by its sides: 26, 27, and 31 for no shape.
-pub fn lattice(kind: Kind, a: usize, b: usize, c: usize) -> Shape
-    ensures answer { outcome_of_verdict result.answer ≡ on_answer done (lattice_for kind a b c) }
-    ensures group { (result.kind ≡ kind) × (result.group ≡ or_else itself no_group (lattice_for kind a b c)) }
+pub fn lattice(kind: Kind, a: usize, b: usize, c: usize) -> Result<Group, Refusal>
+    ensures { outcome_of result ≡ lattice_for kind a b c }
 {
     match kind {
-        Kind::Chain => shape_made(kind, group::chain_1d(a)),
-        Kind::Ladder => shape_made(kind, group::ladder(a, b)),
-        Kind::Torus2 => shape_made(kind, group::torus_2d(a, b)),
-        Kind::Torus3 => shape_made(kind, group::torus_3d(a, b, c)),
-        Kind::Other => no_shape(Refusal::LineForm),
-    }
-}
-
-// What making a lattice came to, with its kind.
-pub fn shape_made(kind: Kind, made: Made) -> Shape
-    ensures { (result.answer ≡ made.answer) × (result.kind ≡ kind) × (result.group ≡ made.group) }
-{
-    let answer = made.answer;
-    let group = made.group;
-    Shape {
-        answer,
-        kind,
-        group,
-    }
-}
-
-// A broken rule, with no shape.
-pub fn no_shape(why: Refusal) -> Shape
-    ensures { (result.answer ≡ Verdict.Refused why) × (result.kind ≡ Kind.Other) × (result.group ≡ no_group) }
-{
-    Shape {
-        answer: Verdict::Refused(why),
-        kind: Kind::Other,
-        group: group::inner::no_group(),
+        Kind::Chain => group::chain_1d(a),
+        Kind::Ladder => group::ladder(a, b),
+        Kind::Torus2 => group::torus_2d(a, b),
+        Kind::Torus3 => group::torus_3d(a, b, c),
+        Kind::Other => Err(Refusal::LineForm),
     }
 }
 
 // The line with a shape and its sides: 31, 26, 27; and its group.
-pub fn read_shape(line: &[u8]) -> Shape
-    ensures answer { (k : ℕ) → at_line k (outcome_of_verdict result.answer) ≡ verdict (shape_checks line.now k) }
-    ensures group { result.answer ≡ Verdict.Accepted → (result.kind ≡ line_shape line.now) × (result.group ≡ line_group line.now) }
+pub fn read_shape(line: &[u8]) -> Result<Shape, Refusal>
+    ensures answer { (k : ℕ) → at_line k (outcome_of result) ≡ verdict (shape_checks line.now k) }
+    ensures shape { IfOk result (λ shape. (shape.kind ≡ line_shape line.now) × (shape.group ≡ line_group line.now)) }
 {
-    let Fields::Four(a, b, c) = text::read::four_fields(line) else {
-        return no_shape(Refusal::LineForm);
+    let Some((a, b, c)) = text::read::four_fields(line) else {
+        return Err(Refusal::LineForm);
     };
     shape_with(
         kind_of(&line[0..a]),
@@ -193,49 +159,44 @@ pub fn read_shape(line: &[u8]) -> Shape
 }
 
 // A shape with its sides: 31, 26, 27; and its group.
-pub fn shape_with(kind: Kind, a: &[u8], b: &[u8], c: &[u8]) -> Shape
-    ensures answer { (k : ℕ) → at_line k (outcome_of_verdict result.answer) ≡ verdict (side_checks kind (a.now ∷ b.now ∷ c.now ∷ []) k) }
-    ensures group { result.answer ≡ Verdict.Accepted → (result.kind ≡ kind) × (result.group ≡ sides_group kind a.now b.now c.now) }
+pub fn shape_with(kind: Kind, a: &[u8], b: &[u8], c: &[u8]) -> Result<Shape, Refusal>
+    ensures answer { (k : ℕ) → at_line k (outcome_of result) ≡ verdict (side_checks kind (a.now ∷ b.now ∷ c.now ∷ []) k) }
+    ensures shape { IfOk result (λ shape. (shape.kind ≡ kind) × (shape.group ≡ sides_group kind a.now b.now c.now)) }
 {
     if !sides_fit(sides_of(kind), a, b, c) {
-        return no_shape(Refusal::LineForm);
+        return Err(Refusal::LineForm);
     }
-    lattice(
+    let group = lattice(
         kind,
         text::read::value(a) as usize,
         text::read::value(b) as usize,
         text::read::value(c) as usize,
-    )
+    )?;
+    Ok(Shape { kind, group })
 }
 
 // A line with a word and its modes: 31, 28, 29, 16.
-pub fn value_fault(used: usize, sites: usize, line: &[u8]) -> Verdict
+pub fn value_fault(used: usize, sites: usize, line: &[u8]) -> Result<(), Refusal>
     requires { used ≤ 3 }
-    ensures { (k : ℕ) → at_line k (outcome_of_verdict result) ≡ verdict (value_checks used sites line.now k) }
+    ensures { (k : ℕ) → at_line k (outcome_of result) ≡ verdict (value_checks used sites line.now k) }
 {
-    let Fields::Four(a, b, c) = text::read::four_fields(line) else {
-        return Verdict::Refused(Refusal::LineForm);
+    let Some((a, b, c)) = text::read::four_fields(line) else {
+        return Err(Refusal::LineForm);
     };
     if !modes_fit(used, &line[a + 1..b], &line[b + 1..c], &line[c + 1..]) {
-        return Verdict::Refused(Refusal::LineForm);
+        return Err(Refusal::LineForm);
     }
     word_fault(sites, &line[0..a])
 }
 
 // A word of other letters, too many, or of other sites: 28, 29, 16.
-pub fn word_fault(sites: usize, word: &[u8]) -> Verdict
-    ensures { (k : ℕ) → at_line k (outcome_of_verdict result) ≡ verdict (letter_checks sites word.now k) }
+pub fn word_fault(sites: usize, word: &[u8]) -> Result<(), Refusal>
+    ensures { (k : ℕ) → at_line k (outcome_of result) ≡ verdict (letter_checks sites word.now k) }
 {
-    let read = pauli_word::from_text(word);
-    let answer = read.answer;
-    match answer {
-        Number::Refused(why) => Verdict::Refused(why),
-        Number::Value(n) => {
-            if n == sites {
-                Verdict::Accepted
-            } else {
-                Verdict::Refused(Refusal::OtherSites)
-            }
-        }
+    let read = pauli_word::from_text(word)?;
+    if read.sites == sites {
+        Ok(())
+    } else {
+        Err(Refusal::OtherSites)
     }
 }

@@ -1,5 +1,6 @@
 -- Rows: texts written one after the other into a list, the parts of a word's row, and a value line that breaks no rule.
 -- What carries it: two writes, each from where the one before ends, write the two texts as one (`writes_then`), so that a chain of them writes a row.
+use Rattle.std.specs.Prelude.{Result, Ok, Err, Some, None}
 use Prim.Native.Nat.{ℕ, zero, suc, ◌+◌, ◌-◌, ◌*◌, ◌≤◌, ◌<◌}
 use mathlib.Core.Path.{◌≡◌, refl, sym, ap, ap₂, subst, ◌∙◌}
 use mathlib.Core.Logic.{inl}
@@ -9,20 +10,20 @@ use native.Mathlib.Nat.{div-le_self, sub-zero}
 use native.Mathlib.Omega.{arith}
 use lib.Dec.{eqb, ltb}
 use lib.IntN.{ℤ}
-use lib.ListN.{length, get_or, take, drop, length-append, length-map}
+use lib.ListN.{length, get_or, take, drop, replicate, length-append, length-map}
 use lib.Seq.{take_at, length-take-le}
 use borrow.Author.Tests.{eqb-true, not-false}
 use Rattle.outcome.specs.declared.Refusal.{Refusal}
 use Rattle.outcome.specs.declared.Refusal.TheVariants as Refusal
-use Rattle.outcome.specs.declared.Number.{Number}
-use Rattle.outcome.specs.declared.Number.TheVariants as Number
 use Rattle.outcome.proofs.Outcomes.{refused_apart, verdict-fine, call-answers}
 use Rattle.pauli_word.specs.Limits.{max_sites, plane_length}
-use Rattle.outcome.specs.Outcome.{answer, verdict, or_else, outcome_of_number}
+use Rattle.outcome.specs.Outcome.{answer, verdict, on_answer, outcome_of}
 use Rattle.pauli_word.specs.Word.{Word, weight}
 use Rattle.pauli_word.specs.Bytes.{AcceptedWord, letters_in, bytes_of, word_in}
 use Rattle.pauli_word.specs.Text.{letter, glyph, letters_alone, read_text, spell, first_other}
-use Rattle.pauli_word.specs.Calls.{word_checks, from_text_bytes, to_text_outcome, to_text_bytes, weight_outcome}
+use Rattle.pauli_word.specs.declared.TextWord.{TextWord}
+use Rattle.pauli_word.specs.declared.WordText.{WordText}
+use Rattle.pauli_word.specs.Calls.{word_checks, text_word, from_text_outcome, word_text, to_text_outcome, weight_outcome}
 use Rattle.pauli_word.proofs.Words.{decode-length, decode-encode, encode-accepted}
 use Rattle.pauli_word.proofs.Sites.{weight_small}
 use Rattle.pauli_word.proofs.Forms.{full-letters}
@@ -39,11 +40,10 @@ use Rattle.decisions.specs.declared.placement.Placement.{Placement}
 use Rattle.decisions.specs.declared.placement.Placement.TheVariants as Placement
 use Rattle.text.specs.Text.{line_end, space, is_mode, signed_of, decimal, put, max_written}
 use Rattle.text.specs.Parts.{four_fields, field_length, fields_read}
-use Rattle.text.specs.declared.read.Fields.{Fields}
-use Rattle.text.specs.declared.read.Fields.TheVariants as Fields
 use Rattle.text.proofs.Decimals.{written_short}
 use Rattle.text.proofs.Writing.{Writes, text_writes}
 use Rattle.text.proofs.Pieces.{part, FourParts, four_parts, parts-read}
+use Rattle.text.proofs.Meanings.{fields_parts}
 use Rattle.sheet_rows.specs.Rows.{refused_name, one_text, missing, joined, row, line_row, number_room, numbers_room, spread, refusal_line, rest}
 use Rattle.sheet_lines.specs.Lines.{zero_text, fields, field, first_pass, letter_checks, value_checks, rule_at}
 use Rattle.sheet_lines.specs.Parts.{mode_or_zero}
@@ -152,14 +152,25 @@ module _ (n : ℕ) (bytes : List ℕ) (ok : AcceptedWord n bytes) where
   pub spelled-length : length text ≡ n
   spelled-length = length-map (letters_in n bytes) glyph ∙ decode-length ok
 
-  -- the text stands at the front of what spelling gives; `&list[0..n]` denotes it
-  pub spelled-front : {list : List ℕ} → list ≡ to_text_bytes n bytes → take (n - 0) list ≡ text
-  unfolding to_text_bytes to_text_outcome
-  spelled-front {list} e =
-      let answers : to_text_outcome n bytes ≡ answer text =
+  -- an accepted word has its text
+  pub spelled : to_text_outcome n bytes ≡ answer text
+  unfolding to_text_outcome
+  spelled =
       call-answers (word_checks n bytes) (answer (spell (word_in n bytes))) passes ∙ ap (λ (w : Word). answer (spell w)) letters-full
-      in
-      ap (take (n - 0)) e ∙ rw answers (take_at text _ (n - 0) (omega (arith, spelled-length)))
+
+  pub spelled-fine : {r : Result WordText Refusal} {why : Refusal} → outcome_of r ≡ on_answer word_text (to_text_outcome n bytes) → r ≡ Err why → ⊥
+  spelled-fine e f = refused_apart _ _ (word_text text) (sym (ap outcome_of f) ∙ e ∙ ap (on_answer word_text) spelled)
+
+  -- which stands at the front of what spelling gives; `&list[0..n]` denotes it
+  pub spelled-front : {r : Result WordText Refusal} {t : WordText} → outcome_of r ≡ on_answer word_text (to_text_outcome n bytes) → r ≡ Ok t
+      → (take (n - 0) t.text ≡ text) × (n ≤ length t.text)
+  spelled-front {r} {t} e f =
+      let g : answer t ≡ answer (word_text text) = sym (ap outcome_of f) ∙ e ∙ ap (on_answer word_text) spelled in
+      let same : t ≡ word_text text = cc in
+      let is : t.text ≡ text ++ replicate (max_sites - length text) 0 = ap (λ (t : WordText). t.text) same in (
+        ap (take (n - 0)) is ∙ take_at text _ (n - 0) (omega (arith, spelled-length)),
+        omega (arith, ap length is, length-append text (replicate (max_sites - length text) 0), spelled-length),
+      )
 
   -- an accepted word has its weight
   pub weighs : weight_outcome n bytes ≡ answer (weight (letters_in n bytes))
@@ -167,33 +178,42 @@ module _ (n : ℕ) (bytes : List ℕ) (ok : AcceptedWord n bytes) where
   weighs =
       call-answers (word_checks n bytes) (answer (weight (word_in n bytes))) passes ∙ ap (λ (w : Word). answer (weight w)) letters-full
 
-  pub not-refused : {r : Number} {why : Refusal} → outcome_of_number r ≡ weight_outcome n bytes → r ≡ Number.Refused why → ⊥
-  not-refused {r} {why} e f = refused_apart _ _ (weight (letters_in n bytes)) (sym (ap outcome_of_number f) ∙ e ∙ weighs)
+  pub not-refused : {r : Result ℕ Refusal} {why : Refusal} → outcome_of r ≡ weight_outcome n bytes → r ≡ Err why → ⊥
+  not-refused {r} {why} e f = refused_apart _ _ (weight (letters_in n bytes)) (sym (ap outcome_of f) ∙ e ∙ weighs)
 
-  pub weighed : {r : Number} {k : ℕ} → outcome_of_number r ≡ weight_outcome n bytes → r ≡ Number.Value k → k ≡ weight (letters_in n bytes)
-  weighed {r} {k} e f = let g : answer k ≡ answer (weight (letters_in n bytes)) = sym (ap outcome_of_number f) ∙ e ∙ weighs in cc
+  pub weighed : {r : Result ℕ Refusal} {k : ℕ} → outcome_of r ≡ weight_outcome n bytes → r ≡ Ok k → k ≡ weight (letters_in n bytes)
+  weighed {r} {k} e f = let g : answer k ≡ answer (weight (letters_in n bytes)) = sym (ap outcome_of f) ∙ e ∙ weighs in cc
 
 -- the word that a text of n letters writes
-module _ (n : ℕ) (text bytes : List ℕ) (alone : letters_alone text ≡ true) (long : length text ≡ n) (few : n ≤ max_sites)
-    (read : bytes ≡ from_text_bytes text) where
+module _ (n : ℕ) (text : List ℕ) (alone : letters_alone text ≡ true) (long : length text ≡ n) (few : n ≤ max_sites) (r : Result TextWord Refusal)
+    (told : outcome_of r ≡ on_answer text_word (from_text_outcome text)) where
+  answers : outcome_of r ≡ answer (text_word (read_text text))
+  answers = told ∙ ap (on_answer text_word) (no_other text (omega arith) alone)
+
+  pub read-fine : {why : Refusal} → r ≡ Err why → ⊥
+  read-fine e = refused_apart _ _ (text_word (read_text text)) (sym (ap outcome_of e) ∙ answers)
+
   letters : length (read_text text) ≡ n
   letters = length-map text letter ∙ long
 
   short : length (read_text text) ≤ 8 * plane_length
   short = omega (arith, letters)
 
-  encoded : bytes ≡ bytes_of (read_text text)
-  unfolding from_text_bytes
-  encoded = read ∙ ap (or_else bytes_of _) (no_other text (omega arith) alone)
-
-  pub read-accepted : AcceptedWord n bytes
-  read-accepted = rw (encoded, sym letters) (encode-accepted plane_length (read_text text) short)
-
   pub weight-few : weight (read_text text) < max_written
   weight-few = omega (arith, weight_small (read_text text), letters)
 
-  pub read_word : letters_in n bytes ≡ read_text text
-  read_word = ap₂ letters_in (sym letters) encoded ∙ decode-encode plane_length (read_text text) short
+  module _ {read : TextWord} (is : r ≡ Ok read) where
+    encoded : read.word ≡ bytes_of (read_text text)
+    encoded =
+        let g : answer read ≡ answer (text_word (read_text text)) = sym (ap outcome_of is) ∙ answers in
+        let same : read ≡ text_word (read_text text) = cc in
+        ap (λ (w : TextWord). w.word) same
+
+    pub read-accepted : AcceptedWord n read.word
+    read-accepted = rw (encoded, sym letters) (encode-accepted plane_length (read_text text) short)
+
+    pub read_word : letters_in n read.word ≡ read_text text
+    read_word = ap₂ letters_in (sym letters) encoded ∙ decode-encode plane_length (read_text text) short
 
 -- ---- the row of a word
 
@@ -296,22 +316,14 @@ module _ (used sites : ℕ) (line : List ℕ) (fine : verdict (value_checks used
       let both = (and-eq-true_iff (four_fields line) (first_pass is_mode used (drop 1 (fields line)))).0 (not-false _ a) in
       (both.0, both.1, not-false (letters_alone f) c, eqb-true (length f) sites (not-false (eqb (length f) sites) d))
 
-  pub line-not-other : fields_read line ≡ Fields.Other → ⊥
+  pub line-not-other : fields_read line ≡ None → ⊥
   line-not-other e =
       let z : ◌≡◌ {A = ℕ} 0 1 = (let f = sym (parts-read line _ _ _ (four_parts line checked.0)) ∙ e in cc) in
       omega arith
 
-  module _ {a b c : ℕ} (told : fields_read line ≡ Fields.Four a b c) where
+  module _ {a b c : ℕ} (told : fields_read line ≡ Some (a, b, c)) where
     pub line-parts : FourParts line a b c
-    line-parts =
-        let f = sym (parts-read line _ _ _ (four_parts line checked.0)) ∙ told in
-        let x : field_length line 0 ≡ a = cc in
-        let second : ℕ = field_length line 0 + 1 + field_length line 1 in
-        let third : ℕ = field_length line 0 + 1 + field_length line 1 + 1 + field_length line 2 in
-        let y : second ≡ b = cc in
-        let z : third ≡ c = cc in
-        subst (FourParts line a b) z
-        (subst (λ (k : ℕ). FourParts line a k third) y (subst (λ (k : ℕ). FourParts line k second third) x (four_parts line checked.0)))
+    line-parts = fields_parts line a b c told
 
     -- the word: what `&line[0..a]` denotes
     abbrev first : List ℕ
@@ -352,9 +364,6 @@ module _ (used sites : ℕ) (line : List ℕ) (fine : verdict (value_checks used
           ∙ rw (ex, ey, ez) (modes_taken used _ _ _ few (ap (λ (ps : List (List ℕ)). every is_mode (take used ps)) (sym e) ∙ passes))
           ∙ ap (λ (ps : List (List ℕ)). map signed_of (take used ps)) (sym e)
 
-      -- of the generators as many as modes are used
-      pub line_row_lem : (gs : ℕ → List Generator) → row (gs (length given)) (read_text first) given ≡ line_row used (gs used) line
+      pub line_row_lem : (gs : List Generator) → row gs (read_text first) given ≡ line_row used gs line
       unfolding line_row
-      line_row_lem gs =
-          ap (λ (k : ℕ). row (gs k) (read_text first) given) (three_taken used x y z few)
-          ∙ ap₂ (λ (f : List ℕ) (ks : List ℤ). row (gs used) (read_text f) ks) (sym first_field) line-modes
+      line_row_lem gs = ap₂ (λ (f : List ℕ) (ks : List ℤ). row gs (read_text f) ks) (sym first_field) line-modes

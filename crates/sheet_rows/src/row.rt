@@ -3,15 +3,15 @@ ghost use Rattle.std.specs.Prelude.{◌≡◌, true, [], ◌∷◌, ◌++◌, �
 ghost use Rattle.outcome.specs.Outcome.{verdict, answer, rule_number};
 ghost use Rattle.pauli_word.specs.Bytes.{letters_in, AcceptedWord};
 ghost use Rattle.pauli_word.specs.Text.{letters_alone, read_text, spell};
-ghost use Rattle.elements.specs.HeldGroup.{generators_in, Tables};
+ghost use Rattle.elements.specs.HeldGroup.{generators_in, Tables, HoldsGroup, generators_held};
 ghost use Rattle.text.specs.Text.{space, decimal, max_written, put};
 ghost use Rattle.sheet_lines.specs.Lines.{zero_text, value_checks};
 ghost use Rattle.sheet_rows.specs.Rows.{missing, one_text, rest, refusal_line, row as row_of, line_row, number_room, numbers_room, spread};
 
 use decisions::placement::Placement;
-use outcome::{Number, Refusal};
+use outcome::Refusal;
 use pauli_word::WORD_BYTES;
-use text::read::Fields;
+use permutation::Lent;
 
 // The line of a sheet that breaks a rule.
 pub fn refusal_line(list: &mut [u8], why: Refusal, line: usize) -> usize
@@ -25,23 +25,15 @@ pub fn refusal_line(list: &mut [u8], why: Refusal, line: usize) -> usize
 }
 
 // The row of a line with a word and its modes that breaks no rule; the group that the tables hold has as many generators as modes are used.
-pub fn write_row(
-    targets: &[u16],
-    orders: &[u32],
-    sites: usize,
-    used: usize,
-    line: &[u8],
-    list: &mut [u8],
-    at: usize,
-) -> usize
-    requires tables { Tables used sites targets.now orders.now }
-    requires used_bound { used ≤ 3 }
-    requires line_value { verdict (value_checks used sites line.now 0) ≡ answer tt }
+pub fn write_row(group: &Lent<'_>, line: &[u8], list: &mut [u8], at: usize) -> usize
+    requires tables { HoldsGroup group.now }
+    requires used_bound { group.now.generators ≤ 3 }
+    requires line_value { verdict (value_checks group.now.generators group.now.sites line.now 0) ≡ answer tt }
     requires line_in_bounds { at + spread * (length line.now + 1) ≤ length list.old }
-    ensures place { result ≡ at + length (line_row used (generators_in used sites targets.now orders.now) line.now) }
-    ensures list { list.new ≡ put at (line_row used (generators_in used sites targets.now orders.now) line.now) list.old }
+    ensures place { result ≡ at + length (line_row group.now.generators (generators_held group.now) line.now) }
+    ensures list { list.new ≡ put at (line_row group.now.generators (generators_held group.now) line.now) list.old }
 {
-    let Fields::Four(a, b, c) = text::read::four_fields(line) else {
+    let Some((a, b, c)) = text::read::four_fields(line) else {
         return at;
     };
     let modes = [
@@ -49,40 +41,27 @@ pub fn write_row(
         sheet_lines::line::mode_or_zero(&line[b + 1..c]),
         sheet_lines::line::mode_or_zero(&line[c + 1..]),
     ];
-    word_row(
-        targets,
-        orders,
-        sites,
-        &modes[0..used],
-        &line[0..a],
-        list,
-        at,
-    )
+    word_row(group, &modes[0..group.generators], &line[0..a], list, at)
 }
 
 // The row of a word under modes, one for each generator.
-fn word_row(
-    targets: &[u16],
-    orders: &[u32],
-    sites: usize,
-    modes: &[i32],
-    word: &[u8],
-    list: &mut [u8],
-    at: usize,
-) -> usize
-    requires tables { Tables (length modes.now) sites targets.now orders.now }
-    requires word_value { (letters_alone word.now ≡ true) × (length word.now ≡ sites) }
+fn word_row(group: &Lent<'_>, modes: &[i32], word: &[u8], list: &mut [u8], at: usize) -> usize
+    requires tables { HoldsGroup group.now }
+    requires modes_len { length modes.now ≡ group.now.generators }
+    requires word_value { (letters_alone word.now ≡ true) × (length word.now ≡ group.now.sites) }
     requires numbers_room_in_bounds { at + (2 * length word.now + 1 + numbers_room) ≤ length list.old }
-    ensures place { result ≡ at + length (row_of (generators_in (length modes.now) sites targets.now orders.now) (read_text word.now) modes.now) }
-    ensures list { list.new ≡ put at (row_of (generators_in (length modes.now) sites targets.now orders.now) (read_text word.now) modes.now) list.old }
+    ensures place { result ≡ at + length (row_of (generators_held group.now) (read_text word.now) modes.now) }
+    ensures list { list.new ≡ put at (row_of (generators_held group.now) (read_text word.now) modes.now) list.old }
 {
-    let read = pauli_word::from_text(word).word;
-    let Number::Value(weight) = pauli_word::weight(sites, &read) else {
+    let sites = group.sites;
+    let Ok(read) = pauli_word::from_text(word) else {
+        return at;
+    };
+    let Ok(weight) = pauli_word::weight(sites, &read.word) else {
         return at;
     };
     let end = text::write::append(list, at, word);
-    let generators = modes.len();
-    let place = sector_rows::word::placement_of(targets, orders, generators, sites, &read, modes);
+    let place = sector_rows::word::placement_of(group, &read.word, modes);
     let answer = place.answer;
     let Placement::Kept(index, size) = answer else {
         return dropped_row(list, end, answer.index(), weight);
@@ -161,6 +140,8 @@ fn append_word(list: &mut [u8], at: usize, sites: usize, word: &[u8]) -> usize
     ensures place { result ≡ at + sites }
     ensures list { list.new ≡ put at (spell (letters_in sites word.now)) list.old }
 {
-    let spelled = pauli_word::to_text(sites, word).text;
-    text::write::append(list, at, &spelled[0..sites])
+    let Ok(spelled) = pauli_word::to_text(sites, word) else {
+        return at;
+    };
+    text::write::append(list, at, &spelled.text[0..sites])
 }

@@ -1,5 +1,6 @@
 -- What a sheet prints: the line of its first broken rule, or its table.
 -- What carries it: the checks of a sheet come to those of its first three lines, and then to those of its value lines.
+use Rattle.std.specs.Prelude.{Result, Ok, Err}
 use Prim.Native.Nat.{ℕ, ◌-◌, ◌≤◌, ◌<◌}
 use mathlib.Core.Path.{◌≡◌, refl, sym, ap, ap₂, subst, ◌∙◌}
 use mathlib.Core.Bool.{Bool, cond}
@@ -8,12 +9,11 @@ use native.Mathlib.Nat.{sub-zero}
 use native.Mathlib.Omega.{arith}
 use lib.ListN.{length, get_or, take, drop, length-drop}
 use lib.Seq.{take_at}
-use borrow.Author.Tests.{lt-ltb, le-ltb}
+use borrow.Author.Tests.{lt-ltb, le-ltb, ltb-false}
 use Rattle.outcome.specs.Outcome.{Outcome, refused, answer, verdict, given, on_answer, done, rule_number, rule_values, refusal_of}
 use Rattle.outcome.specs.declared.Refusal.{Refusal}
 use Rattle.outcome.specs.declared.Refusal.TheVariants as Refusal
-use Rattle.sheet_lines.specs.declared.LineVerdict.{LineVerdict}
-use Rattle.sheet_lines.specs.declared.LineVerdict.TheVariants as LineVerdict
+use Rattle.sheet_lines.specs.declared.LineFault.{LineFault}
 use Rattle.pauli_word.proofs.Words.{rest_part}
 use Rattle.action.specs.Permutation.{Generator}
 use Rattle.elements.specs.HeldGroup.{generators_in, Tables}
@@ -22,50 +22,52 @@ use Rattle.group.specs.Value.{generators_of, AcceptedGroup}
 use Rattle.group.proofs.Accepted.{accepted_tables}
 use Rattle.text.specs.Text.{line_end, pieces, put}
 use Rattle.sheet_lines.specs.Lines.{modes_of, line_shape, line_sites, body_checks, line_checks}
-use Rattle.sheet_text.specs.Sheet.{table_names, sheet_size, max_sheet, rows, line_generators, table, sheet_outcome, printed, sheet, written_outcome, page_of, table_page, refusal_page}
+use Rattle.sheet_text.specs.Sheet.{table_names, sheet_size, max_sheet, sheet_checks, rows, line_generators, table, sheet_outcome, printed, sheet, written_outcome, page_of, table_page, refusal_page}
 use Rattle.sheet_lines.specs.Parts.{line_group, Ready, outcome_of_lines, refused_at}
 use Rattle.sheet_lines.specs.declared.head.Head.{Head}
 use Rattle.sheet_text.proofs.Groups.{line-stands, line-sites, modes_few}
 use Rattle.sheet_rows.specs.Rows.{refusal_line}
-use Rattle.outcome.proofs.Outcomes.{refused_apart}
+use Rattle.outcome.proofs.Outcomes.{refused_apart, verdict-fine}
 
 -- what goes with what the checks of a sheet come to
-abbrev pub Prints : List ℕ → LineVerdict → List ℕ → Type 0
+abbrev pub Prints : List ℕ → Result (Unit {0}) LineFault → List ℕ → Type 0
 Prints input v text = (outcome_of_lines v ≡ on_answer done (sheet_outcome input)) × (sheet input ≡ text)
 
 module _ (input : List ℕ) where
-  prints-by : (v : Outcome (Unit {0})) → verdict (sheet_size input ∷ line_checks (pieces line_end input)) ≡ v
-      → sheet_outcome input ≡ given v (answer (table (pieces line_end input)))
+  prints-by : (v : Outcome (Unit {0})) → verdict (sheet_checks input) ≡ v → sheet_outcome input ≡ given v (answer (table (pieces line_end input)))
   unfolding sheet_outcome
   prints-by v e = ap (λ (u : Outcome (Unit {0})). given u (answer (table (pieces line_end input)))) e
 
-  prints-refused : (why : Refusal) (line : ℕ) → verdict (sheet_size input ∷ line_checks (pieces line_end input)) ≡ refused_at why line
-      → Prints input (LineVerdict.Refused why line) (refusal_line (rule_number why) line)
+  -- a rule is broken
+  pub sheet-broken : (fault : LineFault) → refused_at fault.why fault.line ≡ verdict (sheet_checks input)
+      → Prints input (Err fault) (refusal_line (rule_number fault.why) fault.line)
   unfolding sheet
-  prints-refused why line e =
-      let o = prints-by (refused_at why line) e in
+  sheet-broken fault e =
+      let o = prints-by (refused_at fault.why fault.line) (sym e) in
+      (sym (ap (on_answer done) o), ap printed o)
+
+  -- none is
+  pub sheet-fine : verdict (sheet_checks input) ≡ answer tt → Prints input (Ok tt) (table (pieces line_end input))
+  unfolding sheet
+  sheet-fine f =
+      let o = prints-by (answer tt) f in
       (sym (ap (on_answer done) o), ap printed o)
 
   -- 30
-  pub sheet-long : max_sheet < length input → Prints input (LineVerdict.Refused Refusal.SheetLength 0) (refusal_line (rule_number Refusal.SheetLength) 0)
-  sheet-long h =
-      prints-refused Refusal.SheetLength 0
+  pub size-broken : max_sheet < length input → refused_at Refusal.SheetLength 0 ≡ verdict (sheet_checks input)
+  size-broken h =
+      sym
       (ap (λ (b : Bool). cond b (refused_at Refusal.SheetLength 0) (verdict (line_checks (pieces line_end input)))) (lt-ltb max_sheet (length input) h))
 
-  module _ (short : length input ≤ max_sheet) where
-    lines-decide : verdict (sheet_size input ∷ line_checks (pieces line_end input)) ≡ verdict (line_checks (pieces line_end input))
-    lines-decide =
-        ap (λ (b : Bool). cond b (refused_at Refusal.SheetLength 0) (verdict (line_checks (pieces line_end input)))) (le-ltb max_sheet (length input) short)
+  -- else the lines decide
+  pub lines-decide : length input ≤ max_sheet → verdict (sheet_checks input) ≡ verdict (line_checks (pieces line_end input))
+  lines-decide short =
+      ap (λ (b : Bool). cond b (refused_at Refusal.SheetLength 0) (verdict (line_checks (pieces line_end input)))) (le-ltb max_sheet (length input) short)
 
-    pub sheet-broken : (why : Refusal) (line : ℕ) → refused_at why line ≡ verdict (line_checks (pieces line_end input))
-        → Prints input (LineVerdict.Refused why line) (refusal_line (rule_number why) line)
-    sheet-broken why line f = prints-refused why line (lines-decide ∙ sym f)
-
-    pub sheet-fine : verdict (line_checks (pieces line_end input)) ≡ answer tt → Prints input LineVerdict.Accepted (table (pieces line_end input))
-    unfolding sheet
-    sheet-fine f =
-        let o = prints-by (answer tt) (lines-decide ∙ f) in
-        (sym (ap (on_answer done) o), ap printed o)
+  pub sheet-passes : verdict (sheet_checks input) ≡ answer tt → (length input ≤ max_sheet) × (verdict (line_checks (pieces line_end input)) ≡ answer tt)
+  sheet-passes e =
+      let (size, fine) = verdict-fine (sheet_size input) (line_checks (pieces line_end input)) e in
+      (ltb-false max_sheet (length input) size, fine)
 
 -- the table, by its second line and the lines after the third
 pub table-rows : (ls ps : List (List ℕ)) (line : List ℕ) → get_or ls 1 [] ≡ line → drop 3 ls ≡ ps
@@ -94,14 +96,6 @@ module _ (input : List ℕ) (short : length input ≤ max_sheet) (h : Head) (rea
   ready-count : h.used ≡ h.group.generators
   ready-count = ready.used ∙ sym stands.2 ∙ ap (λ (g : Group). g.generators) (sym ready.group)
 
-  -- the tables of the group, by as many generators as modes are used
-  pub ready-tables : Tables h.used h.group.sites h.group.targets h.group.orders
-  ready-tables =
-      subst (λ (k : ℕ). Tables k h.group.sites h.group.targets h.group.orders) (sym ready-count) (accepted_tables h.group ready-accepted)
-
-  abbrev pub ready-generators : List Generator
-  ready-generators = generators_in h.used h.group.sites h.group.targets h.group.orders
-
   pub ready-short : length body ≤ max_sheet
   ready-short = omega (arith, ap length body_is, length-drop h.body input)
 
@@ -113,19 +107,41 @@ module _ (input : List ℕ) (short : length input ≤ max_sheet) (h : Head) (rea
       ready.checks
       ∙ ap₂ (λ (n : ℕ) (t : List ℕ). verdict (body_checks h.used n (pieces line_end t) 4)) (sym same-sites) (sym body_is)
 
-  pub ready-prints : verdict (body_checks h.used h.group.sites (pieces line_end body) 4) ≡ answer tt
-      → Prints input LineVerdict.Accepted ((table_names ++ (line_end ∷ [])) ++ rows h.used ready-generators (pieces line_end body))
+  -- what its group prints
+  ready-prints : verdict (sheet_checks input) ≡ answer tt
+      → Prints input (Ok tt) ((table_names ++ (line_end ∷ [])) ++ rows h.group.generators (generators_in h.group.generators h.group.sites h.group.targets h.group.orders) (pieces line_end body))
   unfolding generators_of
   ready-prints fine =
-      let gens : ready-generators ≡ line_generators ready.line =
-      ap (λ (k : ℕ). generators_in k h.group.sites h.group.targets h.group.orders) ready-count ∙ ap generators_of ready.group ∙ stands.1
+      let gens : generators_in h.group.generators h.group.sites h.group.targets h.group.orders ≡ line_generators ready.line =
+      ap generators_of ready.group ∙ stands.1
       in
-      let (answers, text) = sheet-fine input short (ready-checks ∙ fine) in (
+      let (answers, text) = sheet-fine input fine in (
         answers,
         text
             ∙ table-rows (pieces line_end input) (pieces line_end body) ready.line ready.second (ready.lines ∙ ap (pieces line_end) (sym body_is))
-            ∙ rw (gens, ready.used),
+            ∙ rw (gens, sym ready-count, ready.used),
       )
+
+  -- and the same group lent
+  module _ (g : Group) (same : g ≡ h.group) where
+    pub lent-tables : Tables g.generators g.sites g.targets g.orders
+    lent-tables = accepted_tables g (rw same ready-accepted)
+
+    pub lent-few : g.generators ≤ 3
+    lent-few = omega (arith, ap (λ (g : Group). g.generators) same, ready-count, ready-few)
+
+    pub lent-checks : verdict (line_checks (pieces line_end input)) ≡ answer tt → verdict (body_checks g.generators g.sites (pieces line_end body) 4) ≡ answer tt
+    lent-checks fine =
+        ap₂ (λ (m n : ℕ). verdict (body_checks m n (pieces line_end body) 4)) (ap (λ (g : Group). g.generators) same ∙ sym ready-count) (ap (λ (g : Group). g.sites) same)
+        ∙ sym ready-checks
+        ∙ fine
+
+    pub lent-prints : verdict (sheet_checks input) ≡ answer tt
+        → Prints input (Ok tt) ((table_names ++ (line_end ∷ [])) ++ rows g.generators (generators_in g.generators g.sites g.targets g.orders) (pieces line_end body))
+    lent-prints fine =
+        subst
+        (λ (g : Group). Prints input (Ok tt) ((table_names ++ (line_end ∷ [])) ++ rows g.generators (generators_in g.generators g.sites g.targets g.orders) (pieces line_end body)))
+        (sym same) (ready-prints fine)
 
 -- ---- the call
 

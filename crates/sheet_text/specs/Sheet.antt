@@ -44,9 +44,13 @@ table ls = let m = get_or ls 1 [] in table_names ++ (line_end ∷ rows (modes_of
 
 -- ---- the sheet
 
+-- the checks of the sheet as a whole and of its lines
+abbrev pub sheet_checks : List ℕ → List Check
+sheet_checks input = sheet_size input ∷ line_checks (pieces line_end input)
+
 unfoldable pub sheet_outcome : List ℕ → Outcome (List ℕ)
 unfolding pieces
-sheet_outcome input = unless (sheet_size input ∷ line_checks (pieces line_end input)) (answer (table (pieces line_end input)))
+sheet_outcome input = unless (sheet_checks input) (answer (table (pieces line_end input)))
 
 -- a refused sheet prints its number and its line
 abbrev pub printed : Outcome (List ℕ) → List ℕ

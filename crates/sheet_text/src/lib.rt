@@ -6,15 +6,16 @@
 
 mod body;
 
-ghost use Rattle.std.specs.Prelude.{◌≡◌, length, ◌<◌};
-ghost use Rattle.outcome.specs.Outcome.{on_answer, done, rule_number};
+ghost use Rattle.std.specs.Prelude.{◌≡◌, length, ◌<◌, Err, IfOk, IfErr};
+ghost use Rattle.outcome.specs.Outcome.{answer, verdict, on_answer, done, rule_number};
 ghost use Rattle.text.specs.Text.{max_written, put};
 ghost use Rattle.sheet_rows.specs.Rows.{refusal_line};
-ghost use Rattle.sheet_lines.specs.Parts.{outcome_of_lines};
-ghost use Rattle.sheet_text.specs.Sheet.{sheet, sheet_outcome, max_table, written_outcome, outcome_of_printed, list_after};
+ghost use Rattle.sheet_lines.specs.Parts.{refused_at, Ready, outcome_of_lines};
+ghost use Rattle.sheet_text.specs.Sheet.{sheet_checks, sheet, sheet_outcome, max_table, written_outcome, outcome_of_printed, list_after};
 
 use outcome::Refusal;
-use sheet_lines::LineVerdict;
+use sheet_lines::LineFault;
+use sheet_lines::head::Head;
 
 // The most bytes of a sheet.
 pub const MAX_SHEET: usize = 65536;
@@ -45,17 +46,16 @@ pub fn sheet_text(input: &[u8], list: &mut [u8]) -> Printed
         return Printed::ListLength;
     }
     text::write::append(list, 0, &text[0..length]);
-    let answer = written.answer;
-    match answer {
-        LineVerdict::Accepted => Printed::Table(length),
-        LineVerdict::Refused(why, line) => Printed::Refused(why, line, length),
+    match written.answer {
+        Ok(()) => Printed::Table(length),
+        Err(fault) => Printed::Refused(fault.why, fault.line, length),
     }
 }
 
 // What the checks of a sheet come to, and the length of what it prints.
 #[derive(Clone, Copy)]
 struct Written {
-    answer: LineVerdict,
+    answer: Result<(), LineFault>,
     length: usize,
 }
 
@@ -66,45 +66,42 @@ fn print_sheet(input: &[u8], list: &mut [u8]) -> Written
     ensures place { result.length ≡ length (sheet input.now) }
     ensures list { list.new ≡ put 0 (sheet input.now) list.old }
 {
-    if MAX_SHEET < input.len() {
-        return refused_line(list, Refusal::SheetLength, 0);
-    }
-    let head = sheet_lines::head::read_head(input);
-    let answer = head.answer;
-    if let LineVerdict::Refused(why, line) = answer {
-        return refused_line(list, why, line);
-    }
-    let group = head.group;
-    let used = head.used;
-    let start = head.body;
-    let body = &input[start..];
-    if let LineVerdict::Refused(why, line) = body::body_fault(used, group.sites, body) {
-        return refused_line(list, why, line);
-    }
+    let head = match checked(input) {
+        Ok(head) => head,
+        Err(fault) => return refused_line(list, fault),
+    };
     let place = text::write::append(list, 0, b"word rep index orbit weight keep\n");
     Written {
-        answer: LineVerdict::Accepted,
-        length: body::fill_rows(
-            &group.targets,
-            &group.orders,
-            group.sites,
-            used,
-            body,
-            list,
-            place,
-        ),
+        answer: Ok(()),
+        length: body::fill_rows(&head.group.lent(), &input[head.body..], list, place),
     }
 }
 
+// The first three lines of a sheet that breaks no rule, or the first line that breaks one, 0 for the sheet as a whole.
+fn checked(input: &[u8]) -> Result<Head, LineFault>
+    ensures fault { IfErr result (λ fault. (refused_at fault.why fault.line ≡ verdict (sheet_checks input.now)) × (fault.line < max_written)) }
+    ensures ready { IfOk result (λ head. Ready input.now head × (verdict (sheet_checks input.now) ≡ answer tt)) }
+{
+    if MAX_SHEET < input.len() {
+        return Err(LineFault {
+            why: Refusal::SheetLength,
+            line: 0,
+        });
+    }
+    let head = sheet_lines::head::read_head(input)?;
+    body::body_fault(head.used, head.group.sites, &input[head.body..])?;
+    Ok(head)
+}
+
 // The line of a refused sheet.
-fn refused_line(list: &mut [u8], why: Refusal, line: usize) -> Written
-    requires { (line < max_written) × (length list.old ≡ max_table) }
-    ensures answer { result.answer ≡ LineVerdict.Refused why line }
-    ensures place { result.length ≡ length (refusal_line (rule_number why) line) }
-    ensures list { list.new ≡ put 0 (refusal_line (rule_number why) line) list.old }
+fn refused_line(list: &mut [u8], fault: LineFault) -> Written
+    requires { (fault.line < max_written) × (length list.old ≡ max_table) }
+    ensures answer { result.answer ≡ Err fault }
+    ensures place { result.length ≡ length (refusal_line (rule_number fault.why) fault.line) }
+    ensures list { list.new ≡ put 0 (refusal_line (rule_number fault.why) fault.line) list.old }
 {
     Written {
-        answer: LineVerdict::Refused(why, line),
-        length: sheet_rows::row::refusal_line(list, why, line),
+        answer: Err(fault),
+        length: sheet_rows::row::refusal_line(list, fault.why, fault.line),
     }
 }

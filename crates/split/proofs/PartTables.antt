@@ -89,10 +89,6 @@ module _ (rows row : List ℕ) (j : ℕ) (places : length rows ≡ target_places
 
 module _ {targets orders : List ℕ} {m : ℕ} {member site number : ℕ → ℕ} {j : ℕ} {rows os : List ℕ} (f : Filled targets orders m member site number j rows os)
     (more : j < max_generators) where
-  -- room for a row
-  pub row_room : max_sites * j + max_sites ≤ length rows
-  row_room = omega (arith, f.places)
-
   pub row-wide : length (take (max_sites * j + max_sites - max_sites * j) (drop (max_sites * j) rows)) ≡ max_sites
   row-wide = simp (length-take, length-drop) (omega (arith, f.places))
 

@@ -10,11 +10,9 @@ pub fn take_out(codes: &[u8], table: &[u16], out: &mut [u8])
     requires by_index { (a : ℕ) → a < length out.old → get_or table.now a 0 < length codes.now }
     ensures { (w : Word) → codes.now ≡ codes_of w → out.new ≡ codes_of (read_by (length out.old) (λ a. get_or table.now a 0) w) }
 {
-    let mut a = 0;
-    while a < out.len() {
+    for a in 0..out.len() {
         let q = table[a] as usize;
         out[a] = codes[q];
-        a += 1;
     }
 }
 
@@ -28,10 +26,8 @@ pub fn put_back(part: &[u8], table: &[u16], codes: &mut [u8])
         → ((q : ℕ) → q < length v → ((a : ℕ) → a < length u → get_or table.now a 0 ≡ q → ⊥) → get_or w q I ≡ get_or v q I)
         → codes.new ≡ codes_of w }
 {
-    let mut a = 0;
-    while a < part.len() {
+    for a in 0..part.len() {
         let q = table[a] as usize;
         codes[q] = part[a];
-        a += 1;
     }
 }

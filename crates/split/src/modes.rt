@@ -9,14 +9,12 @@ pub fn take_modes(modes: &[i32], labels: &[u16], part: usize, own: &mut [i32]) -
     ensures modes { take result own.new ≡ chosen (λ l. eqb l part) labels.now modes.now }
 {
     let mut k: usize = 0;
-    let mut g = 0;
-    while g < labels.len() {
+    for g in 0..labels.len() {
         if labels[g] as usize == part {
             let mode = modes[g];
             own[k] = mode;
             k += 1;
         }
-        g += 1;
     }
     k
 }

@@ -15,14 +15,12 @@ pub fn list_places(
     ensures { Listed n result (λ q. get_or entries.now q 0) value (λ a. get_or table.new a 0) (λ q. get_or number.new q 0) }
 {
     let mut m: usize = 0;
-    let mut q = 0;
-    while q < n {
+    for q in 0..n {
         if entries[q] == value {
             table[m] = q as u16;
             number[q] = m as u16;
             m += 1;
         }
-        q += 1;
     }
     m
 }

@@ -2,12 +2,17 @@
 // the system's reason.
 #![tactic(auto)]
 
+ghost use Rattle.std.specs.Prelude.{◌≤◌, length, IfOk};
+
 use anyhow::{Context, Result};
 use std::io::{Read, Write};
 
 // Reads into a list, to the input's end or the list's: how many bytes. `failure` is what is told of a failed read.
-pub fn read_input<R: Read>(input: &mut R, list: &mut [u8], failure: &str) -> Result<usize> {
+pub fn read_input<R: Read>(input: &mut R, list: &mut [u8], failure: &str) -> Result<usize>
+    ensures { IfOk result (λ count. count ≤ length list.old) }
+{
     let mut done = 0;
+    // A while: each read says how far it came.
     while done < list.len() {
         let more = input.read(&mut list[done..]).context(failure)?;
         if more == 0 {
@@ -25,12 +30,8 @@ pub fn write_front<W: Write>(
     length: usize,
     failure: &str,
 ) -> Result<()> {
-    if length <= list.len() {
-        return write(output, &list[..length], failure);
+    match list.get(..length) {
+        Some(text) => output.write_all(text).context(failure),
+        None => Ok(()),
     }
-    Ok(())
-}
-
-fn write<W: Write>(output: &mut W, text: &[u8], failure: &str) -> Result<()> {
-    output.write_all(text).context(failure)
 }

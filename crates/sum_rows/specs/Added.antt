@@ -1,8 +1,7 @@
 -- What the lists of a sum hold while coefficients are added at their places.
-use Rattle.std.specs.Prelude.{ℕ, ◌≡◌, List, map, length, get_or, Float}
+use Rattle.outcome.specs.declared.Refusal.{Refusal}
+use Rattle.std.specs.Prelude.{ℕ, ◌≡◌, List, map, length, get_or, Float, Result, Ok, Err}
 use Rattle.std.specs.Float.{nan}
-use Rattle.outcome.specs.declared.Verdict.{Verdict}
-use Rattle.outcome.specs.declared.Verdict.TheVariants as Verdict
 use Rattle.keyed.specs.Keyed.{placed, place_values}
 use Rattle.sum_rows.specs.declared.row_sum.RowSum.{RowSum}
 use Rattle.sum_rows.specs.Sums.{place_sums}
@@ -17,6 +16,6 @@ pub record Added (places : List ℕ) (cs : List Float) (i : ℕ) (sums : List Fl
   pub rows : counts ≡ map (λ s. s.rows) (place_values place_sums (length cs) (placed nan places cs i))
 
 -- all rows are added where there is no refusal; beside one the lists have their lengths
-abbrev pub AddedAll : Verdict → List ℕ → List Float → List Float → List ℕ → Type 0
-AddedAll Verdict.Accepted places cs sums counts = Added places cs (length cs) sums counts
-AddedAll (Verdict.Refused why) places cs sums counts = (length sums ≡ length cs) × (length counts ≡ length cs)
+abbrev pub AddedAll : Result (Unit {0}) Refusal → List ℕ → List Float → List Float → List ℕ → Type 0
+AddedAll (Ok tt) places cs sums counts = Added places cs (length cs) sums counts
+AddedAll (Err why) places cs sums counts = (length sums ≡ length cs) × (length counts ≡ length cs)

@@ -1,7 +1,7 @@
 // Coefficients added where their words stand. Whoever calls a function here owes its `requires`.
 ghost use Rattle.std.specs.Prelude.{◌≡◌, [], ◌∷◌, ℕ, ◌≤◌, ◌<◌, length, get_or, set, replicate};
 ghost use Rattle.std.specs.Float.{nan};
-ghost use Rattle.outcome.specs.Outcome.{outcome_of_verdict, verdict};
+ghost use Rattle.outcome.specs.Outcome.{outcome_of, verdict};
 ghost use Rattle.keyed.specs.Keyed.{placed};
 ghost use Rattle.row_lists.specs.Rows.{max_rows};
 ghost use Rattle.sum_rows.specs.Sums.{zero, add_row, finite_sum, overflow, place_sums};
@@ -9,7 +9,7 @@ ghost use Rattle.sum_rows.specs.Added.{held_at, AddedAll};
 
 use crate::row_sum;
 use crate::row_sum::RowSum;
-use outcome::{Refusal, Verdict};
+use outcome::Refusal;
 
 // Zeros alone.
 pub fn clear(sums: &mut [f64], counts: &mut [u32])
@@ -17,12 +17,8 @@ pub fn clear(sums: &mut [f64], counts: &mut [u32])
     ensures sums { sums.new ≡ replicate (length sums.old) zero }
     ensures counts { counts.new ≡ replicate (length sums.old) 0 }
 {
-    let mut i = 0;
-    while i < sums.len() {
-        sums[i] = 0.0;
-        counts[i] = 0;
-        i += 1;
-    }
+    sums.fill(0.0);
+    counts.fill(0);
 }
 
 // Adds a coefficient to the sum at a place: whether that is finite then.
@@ -51,22 +47,20 @@ pub fn add_rows(
     places: &[u16],
     sums: &mut [f64],
     counts: &mut [u32],
-) -> Verdict
+) -> Result<(), Refusal>
     requires coefficients_len_bound { length coefficients.now ≤ max_rows }
     requires places_len { length places.now ≡ max_rows }
     requires by_index { (i : ℕ) → i < length coefficients.now → get_or places.now i 0 < length coefficients.now }
     requires sums_value { sums.old ≡ replicate (length coefficients.now) zero }
     requires counts_value { counts.old ≡ replicate (length coefficients.now) 0 }
-    ensures answer { outcome_of_verdict result ≡ verdict (overflow place_sums (placed nan places.now coefficients.now (length coefficients.now)) ∷ []) }
+    ensures answer { outcome_of result ≡ verdict (overflow place_sums (placed nan places.now coefficients.now (length coefficients.now)) ∷ []) }
     ensures added { AddedAll result places.now coefficients.now sums.new counts.new }
 {
-    let mut i = 0;
-    while i < coefficients.len() {
+    for i in 0..coefficients.len() {
         let at = places[i] as usize;
         if !add_row(coefficients[i], at, sums, counts) {
-            return Verdict::Refused(Refusal::SumNotFinite(i));
+            return Err(Refusal::SumNotFinite(i));
         }
-        i += 1;
     }
-    Verdict::Accepted
+    Ok(())
 }

@@ -14,8 +14,7 @@ use borrow.Author.Tests.{eqb-true, eqb-false, eq-eqb, ne_eqb}
 use Rattle.action.specs.Lists.{same_numbers}
 use Rattle.text.specs.Text.{line_end, before, pieces}
 use Rattle.text.specs.Names.{names_read}
-use Rattle.text.specs.declared.names.Names.{Names}
-use Rattle.text.specs.declared.names.Names.TheVariants as Names
+use Rattle.std.specs.Prelude.{Some, None}
 use Rattle.text.proofs.Pieces.{before_short, pieces-next}
 
 -- ---- slices
@@ -35,23 +34,23 @@ after_line text at r = drop-drop (r + 1) at text ∙ ap (λ (k : ℕ). drop k te
 -- ---- what a look at the first line comes to
 
 module _ (names text : List ℕ) (k : ℕ) (e : k ≡ length (before line_end text)) where
-  read_at : names_read names text ≡ cond (eqb k (length text)) Names.Other (cond (same_numbers (take k text) names) (Names.End k) Names.Other)
-  read_at = ap (λ (j : ℕ). cond (eqb j (length text)) Names.Other (cond (same_numbers (take j text) names) (Names.End j) Names.Other)) (sym e)
+  read_at : names_read names text ≡ cond (eqb k (length text)) None (cond (same_numbers (take k text) names) (Some k) None)
+  read_at = ap (λ (j : ℕ). cond (eqb j (length text)) None (cond (same_numbers (take j text) names) (Some j) None)) (sym e)
 
-  pub names-missing : k ≡ length text → Names.Other ≡ names_read names text
+  pub names-missing : k ≡ length text → None ≡ names_read names text
   names-missing h =
-      sym (read_at ∙ ap (λ (t : Bool). cond t Names.Other (cond (same_numbers (take k text) names) (Names.End k) Names.Other)) (eq-eqb k (length text) h))
+      sym (read_at ∙ ap (λ (t : Bool). cond t None (cond (same_numbers (take k text) names) (Some k) None)) (eq-eqb k (length text) h))
 
   module _ (some : k ≡ length text → ⊥) where
-    there : names_read names text ≡ cond (same_numbers (take k text) names) (Names.End k) Names.Other
+    there : names_read names text ≡ cond (same_numbers (take k text) names) (Some k) None
     there =
-        read_at ∙ ap (λ (t : Bool). cond t Names.Other (cond (same_numbers (take k text) names) (Names.End k) Names.Other)) (ne_eqb k (length text) some)
+        read_at ∙ ap (λ (t : Bool). cond t None (cond (same_numbers (take k text) names) (Some k) None)) (ne_eqb k (length text) some)
 
-    pub names_same : same_numbers (take k text) names ≡ true → Names.End k ≡ names_read names text
-    names_same s = sym (there ∙ ap (λ (t : Bool). cond t (Names.End k) Names.Other) s)
+    pub names_same : same_numbers (take k text) names ≡ true → Some k ≡ names_read names text
+    names_same s = sym (there ∙ ap (λ (t : Bool). cond t (Some k) None) s)
 
-    pub names-differ : same_numbers (take k text) names ≡ false → Names.Other ≡ names_read names text
-    names-differ s = sym (there ∙ ap (λ (t : Bool). cond t (Names.End k) Names.Other) s)
+    pub names-differ : same_numbers (take k text) names ≡ false → None ≡ names_read names text
+    names-differ s = sym (there ∙ ap (λ (t : Bool). cond t (Some k) None) s)
 
 -- ---- a line that ends at k
 
@@ -68,13 +67,13 @@ ended-pieces text k at = pieces-next line_end text k at.place at.within
 
 -- ---- and back
 
-pub names_ends : (names text : List ℕ) (a : ℕ) → names_read names text ≡ Names.End a → Ended text a × (same_numbers (take a text) names ≡ true)
+pub names_ends : (names text : List ℕ) (a : ℕ) → names_read names text ≡ Some a → Ended text a × (same_numbers (take a text) names ≡ true)
 names_ends names text a e =
     go (eqb (length (before line_end text)) (length text)) refl (same_numbers (take (length (before line_end text)) text) names) refl e
   where
     go : (s : Bool) → eqb (length (before line_end text)) (length text) ≡ s
         → (t : Bool) → same_numbers (take (length (before line_end text)) text) names ≡ t
-        → cond s Names.Other (cond t (Names.End (length (before line_end text))) Names.Other) ≡ Names.End a
+        → cond s None (cond t (Some (length (before line_end text))) None) ≡ Some a
         → Ended text a × (same_numbers (take a text) names ≡ true)
     go true x t y f = let no : ◌≡◌ {A = ℕ} 0 1 = cc in absurd (omega arith)
     go false x false y f = let no : ◌≡◌ {A = ℕ} 0 1 = cc in absurd (omega arith)
@@ -83,14 +82,14 @@ names_ends names text a e =
         (ended text a g (λ h. eqb-false (length (before line_end text)) (length text) x (sym g ∙ h)), ap (λ (j : ℕ). same_numbers (take j text) names) g ∙ y)
 
 -- other names, or no line
-pub names-other : (names text : List ℕ) → names_read names text ≡ Names.Other
+pub names-other : (names text : List ℕ) → names_read names text ≡ None
     → (length (before line_end text) ≡ length text)
     ⊎ (Ended text (length (before line_end text)) × (same_numbers (take (length (before line_end text)) text) names ≡ false))
 names-other names text e = go (eqb (length (before line_end text)) (length text)) refl (same_numbers (take (length (before line_end text)) text) names) refl e
   where
     go : (s : Bool) → eqb (length (before line_end text)) (length text) ≡ s
         → (t : Bool) → same_numbers (take (length (before line_end text)) text) names ≡ t
-        → cond s Names.Other (cond t (Names.End (length (before line_end text))) Names.Other) ≡ Names.Other
+        → cond s None (cond t (Some (length (before line_end text))) None) ≡ None
         → (length (before line_end text) ≡ length text)
         ⊎ (Ended text (length (before line_end text)) × (same_numbers (take (length (before line_end text)) text) names ≡ false))
     go true x t y f = inl (eqb-true (length (before line_end text)) (length text) x)

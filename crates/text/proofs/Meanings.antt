@@ -3,7 +3,7 @@
 -- signed number's and a mode's; a text that is put into a list stands there, and the rest stays. What such laws leave open, as the base of the numbers,
 -- examples settle.
 use Prim.Native.Nat.{ℕ, suc, ◌+◌, ◌-◌, ◌^◌, ◌≤◌, ◌<◌}
-use mathlib.Core.Path.{◌≡◌, refl, sym, ap, ap₂, ◌∙◌}
+use mathlib.Core.Path.{◌≡◌, refl, sym, ap, ap₂, subst, ◌∙◌}
 use mathlib.Core.Bool.{Bool, true, false, ◌&&◌, not, cond, false≢true, and-eq-true_iff}
 use mathlib.Core.List.{List, [], ◌∷◌, ◌++◌, map}
 use native.Mathlib.Omega.{arith}
@@ -19,10 +19,8 @@ use Rattle.action.specs.Lists.{from, below, select, count, every}
 use Rattle.text.specs.Text.{line_end, space, minus, zero_digit, nine_digit, before, extended, pieces, is_digit, is_number, read_on, number_of, is_signed, signed_of, in_modes, is_mode, digits_of, wide_digits, decimal, put, parted, signed_text}
 use Rattle.text.specs.Parts.{cap, clamped, signed_read, mode_read, field_from, four_fields, field_length, fields_read}
 use Rattle.text.specs.Quoted.{bytes}
-use Rattle.text.specs.declared.read.Signed.TheVariants as Signed
-use Rattle.text.specs.declared.read.Mode.TheVariants as Mode
+use Rattle.std.specs.Prelude.{Option, Some, None}
 use Rattle.text.specs.declared.read.Field.TheVariants as Field
-use Rattle.text.specs.declared.read.Fields.TheVariants as Fields
 use Rattle.text.proofs.Pieces.{pieces-some, FourParts, four_parts}
 use Rattle.text.proofs.Numbers.{value-signed, minus_first, plain_first, clamped-same, clamped_large, modes_fit_lem, fit_modes, modes_small}
 use Rattle.text.proofs.Roundtrip.{digits_number, digits-is_number, number_digits, number_begins}
@@ -89,7 +87,7 @@ first_before c (b ∷ bs) = go (eqb b c) (pieces-some c bs) (first_before c bs)
 -- ---- fields
 
 -- where the four fields of a line end; `parts-read` is the converse
-pub fields_parts : (line : List ℕ) (a b c : ℕ) → fields_read line ≡ Fields.Four a b c → FourParts line a b c
+pub fields_parts : (line : List ℕ) (a b c : ℕ) → fields_read line ≡ Some (a, b, c) → FourParts line a b c
 fields_parts line a b c e = go (four_fields line) refl e
   where
     x : ℕ
@@ -101,17 +99,15 @@ fields_parts line a b c e = go (four_fields line) refl e
     z : ℕ
     z = y + 1 + field_length line 2
 
-    go : (t : Bool) → four_fields line ≡ t → cond t (Fields.Four x y z) Fields.Other ≡ Fields.Four a b c → FourParts line a b c
+    go : (t : Bool) → four_fields line ≡ t → cond {A = Option (ℕ × ℕ × ℕ)} t (Some (x, y, z)) None ≡ Some (a, b, c) → FourParts line a b c
     go true t e =
-        let p : a ≡ x = cc in
-        let q : b ≡ y = cc in
-        let r : c ≡ z = cc in
-        rw (p, q, r) (four_parts line t)
+        let same : ◌≡◌ {A = ℕ × ℕ × ℕ} (x, y, z) (a, b, c) = cc in
+        subst (λ (p : ℕ × ℕ × ℕ). FourParts line p.0 p.1 p.2) same (four_parts line t)
     go false t e = let w : ◌≡◌ {A = ℕ} 0 1 = cc in absurd (omega arith)
 
 pub fields-examples :
     map fields_read (bytes "ab c def g" ∷ bytes "ab c def" ∷ bytes "ab c def g h" ∷ bytes "ab  def g" ∷ bytes "ab c def " ∷ [])
-    ≡ Fields.Four 2 4 8 ∷ Fields.Other ∷ Fields.Other ∷ Fields.Other ∷ Fields.Other ∷ []
+    ≡ Some (2, 4, 8) ∷ None ∷ None ∷ None ∷ None ∷ []
 unfolding four_fields pieces every
 fields-examples = refl
 
@@ -173,10 +169,10 @@ text_signed (b ∷ bs) h wide = go (eqb b minus) refl h wide
     go false e k small = number-decimal (b ∷ bs) k small
 
 -- up to the cap, and below it
-pub signed_read_lem : (z : ℤ) → nat_abs z ≤ cap → signed_read (signed_text z) ≡ Signed.Value z
-signed_read_lem z near = let (is, value) = signed_text_lem z (omega arith) in rw (is, value) (ap Signed.Value (clamped-same z near))
+pub signed_read_lem : (z : ℤ) → nat_abs z ≤ cap → signed_read (signed_text z) ≡ Some z
+signed_read_lem z near = let (is, value) = signed_text_lem z (omega arith) in rw (is, value) (ap Some (clamped-same z near))
 
-pub read_signed_lem : (t : List ℕ) (z : ℤ) → signed_read t ≡ Signed.Value z → nat_abs z < cap → signed_text z ≡ t
+pub read_signed_lem : (t : List ℕ) (z : ℤ) → signed_read t ≡ Some z → nat_abs z < cap → signed_text z ≡ t
 read_signed_lem t z e near =
     let (is, same) = value-signed t z e in
     let small = le-leb (nat_abs (clamped (signed_of t))) (cap - 1) (omega (arith, ap nat_abs same)) in
@@ -211,13 +207,13 @@ text_mode t h =
     let (is, within) = (and-eq-true_iff (is_signed t) (in_modes (signed_of t))).0 h in
     (modes_fit_lem (signed_of t) within, text_signed t is (omega (arith, modes_small (signed_of t) within)))
 
-pub mode_read_lem : (z : ℤ) → SFits w32 z → mode_read (signed_text z) ≡ Mode.Value z
-mode_read_lem z fits = let (is, value) = mode_text z fits in rw is (ap Mode.Value value)
+pub mode_read_lem : (z : ℤ) → SFits w32 z → mode_read (signed_text z) ≡ Some z
+mode_read_lem z fits = let (is, value) = mode_text z fits in rw is (ap Some value)
 
-pub read_mode_lem : (t : List ℕ) (z : ℤ) → mode_read t ≡ Mode.Value z → SFits w32 z × (signed_text z ≡ t)
+pub read_mode_lem : (t : List ℕ) (z : ℤ) → mode_read t ≡ Some z → SFits w32 z × (signed_text z ≡ t)
 read_mode_lem t z e = go (is_mode t) refl e
   where
-    go : (b : Bool) → is_mode t ≡ b → cond b (Mode.Value (signed_of t)) Mode.Other ≡ Mode.Value z → SFits w32 z × (signed_text z ≡ t)
+    go : (b : Bool) → is_mode t ≡ b → cond b (Some (signed_of t)) None ≡ Some z → SFits w32 z × (signed_text z ≡ t)
     go true is e = let same : z ≡ signed_of t = cc in rw same (text_mode t is)
     go false is e = let w : ◌≡◌ {A = ℕ} 0 1 = cc in absurd (omega arith)
 

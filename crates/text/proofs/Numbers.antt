@@ -19,31 +19,15 @@ use mir.ValLaws.{to_z_pos, to_z-of_z}
 use Rattle.action.specs.Lists.{every}
 use Rattle.text.specs.Text.{minus, zero_digit, nine_digit, is_digit, is_number, read_on, number_of, is_signed, signed_of, mode_bound, in_modes, is_mode}
 use Rattle.text.specs.Parts.{cap, clamped, signed_read, mode_in, mode_read}
-use Rattle.text.specs.declared.read.Signed.TheVariants as Signed
-use Rattle.text.specs.declared.read.Mode.TheVariants as Mode
+use Rattle.std.specs.List.{list_all}
+use Rattle.std.specs.Prelude.{Some, None}
 
 -- ---- digits alone
 
-module _ (p : ℕ → Bool) (text : List ℕ) (i : ℕ) (h : i < length text) where
-  at_i : every p (drop i text) ≡ (p (get_or text i 0) && every p (drop (i + 1) text))
-  unfolding every
-  at_i = simp (drop-cons text i 0 h, add-one)
-
-  pub every-fails : p (get_or text i 0) ≡ false → every p (drop i text) ≡ false
-  every-fails e = at_i ∙ ap (λ (t : Bool). t && every p (drop (i + 1) text)) e
-
-  pub every-next : p (get_or text i 0) ≡ true → every p (drop i text) ≡ every p (drop (i + 1) text)
-  every-next e = at_i ∙ ap (λ (t : Bool). t && every p (drop (i + 1) text)) e
-
-pub every_end : (p : ℕ → Bool) (text : List ℕ) (i : ℕ) → length text ≤ i → every p (drop i text) ≡ true
+pub all_every : (p : ℕ → Bool) (text : List ℕ) → list_all p text ≡ every p text
 unfolding every
-every_end p text i h = simp (drop_of_length-le text h)
-
-pub digit-below : (b : ℕ) → b < zero_digit → is_digit b ≡ false
-digit-below b h = simp (lt-leb zero_digit b h)
-
-pub digit_above : (b : ℕ) → nine_digit < b → is_digit b ≡ false
-digit_above b h = let l : zero_digit ≤ b = omega arith in simp (le-leb zero_digit b l, lt-leb b nine_digit h)
+all_every p [] = refl
+all_every p (b ∷ bs) = ap (λ (t : Bool). p b && t) (all_every p bs)
 
 pub digit_within : (b : ℕ) → zero_digit ≤ b → b ≤ nine_digit → is_digit b ≡ true
 digit_within b h k = simp (le-leb zero_digit b h, le-leb b nine_digit k)
@@ -114,24 +98,24 @@ zero_capped x v e z = omega arith
 
 -- ---- signed numbers
 
-pub signed_none : (text : List ℕ) → length text ≡ 0 → signed_read text ≡ Signed.Other
+pub signed_none : (text : List ℕ) → length text ≡ 0 → signed_read text ≡ None
 unfolding is_signed
 signed_none [] h = refl
 signed_none (b ∷ bs) h = absurd (omega arith)
 
 -- what a text that is read as a number, or as none, is
 module _ (text : List ℕ) where
-  pub value-signed : (z : ℤ) → signed_read text ≡ Signed.Value z → (is_signed text ≡ true) × (z ≡ clamped (signed_of text))
+  pub value-signed : (z : ℤ) → signed_read text ≡ Some z → (is_signed text ≡ true) × (z ≡ clamped (signed_of text))
   value-signed z e = go (is_signed text) e
     where
-      go : (t : Bool) → cond t (Signed.Value (clamped (signed_of text))) Signed.Other ≡ Signed.Value z → (t ≡ true) × (z ≡ clamped (signed_of text))
+      go : (t : Bool) → cond t (Some (clamped (signed_of text))) None ≡ Some z → (t ≡ true) × (z ≡ clamped (signed_of text))
       go true e = (refl, cc)
       go false e = let w : ◌≡◌ {A = ℕ} 0 1 = cc in absurd (omega arith)
 
-  pub other-signed : signed_read text ≡ Signed.Other → is_signed text ≡ false
+  pub other-signed : signed_read text ≡ None → is_signed text ≡ false
   other-signed e = go (is_signed text) e
     where
-      go : (t : Bool) → cond t (Signed.Value (clamped (signed_of text))) Signed.Other ≡ Signed.Other → t ≡ false
+      go : (t : Bool) → cond t (Some (clamped (signed_of text))) None ≡ None → t ≡ false
       go true e = let w : ◌≡◌ {A = ℕ} 0 1 = cc in absurd (omega arith)
       go false e = refl
 
@@ -146,21 +130,21 @@ module _ (text : List ℕ) (some : 0 < length text) (m : get_or text 0 0 ≡ min
   is-minus : is_signed text ≡ (is_number (drop 1 text) && not (eqb (number_of (drop 1 text)) 0))
   is-minus = (minus_first text some m).0
 
-  pub minus-no-number : is_number (drop 1 text) ≡ false → signed_read text ≡ Signed.Other
+  pub minus-no-number : is_number (drop 1 text) ≡ false → signed_read text ≡ None
   minus-no-number e = simp (is-minus, e)
 
   module _ (v : ℕ) (e : v ≡ min (number_of (drop 1 text)) cap) where
-    pub minus-zero : v ≡ 0 → signed_read text ≡ Signed.Other
+    pub minus-zero : v ≡ 0 → signed_read text ≡ None
     minus-zero z =
         let n : number_of (drop 1 text) ≡ 0 = omega arith in
         simp (is-minus, eq-eqb (number_of (drop 1 text)) 0 n, and-false (is_number (drop 1 text)))
 
-    pub minus-value : is_number (drop 1 text) ≡ true → 0 < v → Signed.Value (negsuc (v - 1)) ≡ signed_read text
+    pub minus-value : is_number (drop 1 text) ≡ true → 0 < v → Some (negsuc (v - 1)) ≡ signed_read text
     minus-value t p =
         let x : v - 1 ≡ min (number_of (drop 1 text) - 1) (cap - 1) = omega arith in
         let z : number_of (drop 1 text) ≡ 0 → ⊥ = λ k. omega arith in
         let k : is_signed text ≡ true = is-minus ∙ simp (t, ne_eqb (number_of (drop 1 text)) 0 z) in
-        sym (simp (k, (minus_first text some m).1) (ap (λ (y : ℕ). Signed.Value (negsuc y)) (sym x)))
+        sym (simp (k, (minus_first text some m).1) (ap (λ (y : ℕ). Some (negsuc y)) (sym x)))
 
 -- a text that begins with another byte
 pub plain_first : (t : List ℕ) → (get_or t 0 0 ≡ minus → ⊥) → 0 < length t → (is_signed t ≡ is_number t) × (signed_of t ≡ pos (number_of t))
@@ -169,13 +153,13 @@ plain_first [] n s = absurd (omega arith)
 plain_first (b ∷ bs) n s = (simp (ne_eqb b minus n), simp (ne_eqb b minus n))
 
 module _ (text : List ℕ) (some : 0 < length text) (m : get_or text 0 0 ≡ minus → ⊥) where
-  pub plain-no-number : is_number text ≡ false → signed_read text ≡ Signed.Other
+  pub plain-no-number : is_number text ≡ false → signed_read text ≡ None
   plain-no-number e = simp ((plain_first text m some).0, e)
 
-  pub plain_value : (v : ℕ) → v ≡ min (number_of text) cap → is_number text ≡ true → Signed.Value (to_z w64 v) ≡ signed_read text
+  pub plain_value : (v : ℕ) → v ≡ min (number_of text) cap → is_number text ≡ true → Some (to_z w64 v) ≡ signed_read text
   plain_value v e t =
       let k : is_signed text ≡ true = (plain_first text m some).0 ∙ t in
-      ap Signed.Value (to_z_pos w64 v (omega arith)) ∙ sym (simp (k, (plain_first text m some).1) (ap (λ (y : ℕ). Signed.Value (pos y)) (sym e)))
+      ap Some (to_z_pos w64 v (omega arith)) ∙ sym (simp (k, (plain_first text m some).1) (ap (λ (y : ℕ). Some (pos y)) (sym e)))
 
 -- ---- a value made negative, as the code computes it from bits
 
@@ -208,6 +192,17 @@ pub clamped-same : (z : ℤ) → nat_abs z ≤ cap → clamped z ≡ z
 clamped-same (pos n) h = ap pos (min-eq_left h)
 clamped-same (negsuc n) h = ap negsuc (min-eq_left (omega arith))
 
+-- 64 bits hold it
+pub clamped_stays : (z : ℤ) → to_z w64 (of_z w64 (clamped z)) ≡ clamped z
+clamped_stays z = to_z-of_z w64 (clamped z) (go z)
+  where
+    go : (z : ℤ) → SFits w64 (clamped z)
+    go (pos n) = record { sfits = omega arith }
+    go (negsuc n) = record { sfits = omega arith }
+
+pub signed_stays : (text : List ℕ) (z : ℤ) → signed_read text ≡ Some z → to_z w64 (of_z w64 z) ≡ z
+signed_stays text z e = let (is, same) = value-signed text z e in rw same (clamped_stays (signed_of text))
+
 -- a bound below the cap does not see it
 pub clamped_large : (bound : ℕ) → bound < cap → (z : ℤ) → leb (nat_abs (clamped z)) bound ≡ leb (nat_abs z) bound
 clamped_large bound low (pos n) = same_leb bound (min n cap) n (λ h. omega arith) (λ h. omega arith)
@@ -232,17 +227,17 @@ module _ (z : ℤ) (f : SFits w64 z) where
   held : to_z w64 (of_z w64 z) ≡ z
   held = to_z-of_z w64 z f
 
-  pub mode-low : lt_z (to_z w64 (of_z w64 z)) (negsuc (mode_bound - 1)) ≡ true → Mode.Other ≡ mode_in z
+  pub mode-low : lt_z (to_z w64 (of_z w64 z)) (negsuc (mode_bound - 1)) ≡ true → None ≡ mode_in z
   mode-low h = go z (rw held at h)
     where
-      go : (y : ℤ) → lt_z y (negsuc (mode_bound - 1)) ≡ true → Mode.Other ≡ mode_in y
+      go : (y : ℤ) → lt_z y (negsuc (mode_bound - 1)) ≡ true → None ≡ mode_in y
       go (pos n) l = absurd (false≢true l)
       go (negsuc n) l = rw (le-ltb n mode_bound (omega (arith, ltb-true (mode_bound - 1) n l)))
 
-  pub mode-high : lt_z (to_z w64 (of_z w64 z)) (pos mode_bound) ≡ false → Mode.Other ≡ mode_in z
+  pub mode-high : lt_z (to_z w64 (of_z w64 z)) (pos mode_bound) ≡ false → None ≡ mode_in z
   mode-high h = go z (rw held at h)
     where
-      go : (y : ℤ) → lt_z y (pos mode_bound) ≡ false → Mode.Other ≡ mode_in y
+      go : (y : ℤ) → lt_z y (pos mode_bound) ≡ false → None ≡ mode_in y
       go (pos n) l = rw l
       go (negsuc n) l = absurd (true≢false l)
 
@@ -257,8 +252,8 @@ module _ (z : ℤ) (f : SFits w64 z) where
     pub mode-narrow : SFits w32 (to_z w64 (of_z w64 z))
     mode-narrow = rw held (modes_fit_lem z within)
 
-    pub mode-value : Mode.Value (to_z w32 (of_z w32 (to_z w64 (of_z w64 z)))) ≡ mode_in z
-    mode-value = rw (held, within) (ap Mode.Value (to_z-of_z w32 z (modes_fit_lem z within)))
+    pub mode-value : Some (to_z w32 (of_z w32 (to_z w64 (of_z w64 z)))) ≡ mode_in z
+    mode-value = rw (held, within) (ap Some (to_z-of_z w32 z (modes_fit_lem z within)))
 
 clamped_modes : (z : ℤ) → in_modes (clamped z) ≡ in_modes z
 clamped_modes (pos n) = same_leb mode_bound (suc (min n cap)) (suc n) (λ h. omega arith) (λ h. omega arith)
@@ -273,10 +268,10 @@ clamped_mode z = go (in_modes z) refl
 
 -- a text read as a mode, by the number that it is read as
 module _ (text : List ℕ) where
-  pub value-mode : (z : ℤ) → signed_read text ≡ Signed.Value z → mode_in z ≡ mode_read text
+  pub value-mode : (z : ℤ) → signed_read text ≡ Some z → mode_in z ≡ mode_read text
   unfolding is_mode
   value-mode z e = let (is, same) = value-signed text z e in rw (same, is) (clamped_mode (signed_of text))
 
-  pub other-mode : signed_read text ≡ Signed.Other → Mode.Other ≡ mode_read text
+  pub other-mode : signed_read text ≡ None → None ≡ mode_read text
   unfolding is_mode
   other-mode e = rw (other-signed text e)

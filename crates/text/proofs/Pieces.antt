@@ -8,10 +8,10 @@ use mathlib.Core.List.{List, [], ◌∷◌, ◌++◌, append-nil}
 use native.Mathlib.Nat.{eq-or-lt_of_le, le_of_suc-le-suc}
 use native.Mathlib.Numerals.{add-one}
 use native.Mathlib.Omega.{arith}
-use lib.Dec.{eqb, eqb-suc-suc}
+use lib.Dec.{eqb, eqb-suc-suc, ltb}
 use lib.ListN.{length, get_or, take, drop, length-drop, drop_of_length-le}
 use lib.Seq.{drop-cons, drop-drop, take_all, length-take-le}
-use borrow.Author.Tests.{eqb-true, eqb-false, eq-eqb, ne_eqb, not-true}
+use borrow.Author.Tests.{eqb-true, eqb-false, eq-eqb, ne_eqb, ltb-false, not-true}
 use Rattle.pauli_word.proofs.Words.{rest_part}
 use Rattle.action.specs.Lists.{same_numbers, every}
 use Rattle.action.proofs.Lists.{same_numbers_eq}
@@ -19,33 +19,20 @@ use Rattle.text.specs.Text.{space, before, extended, pieces, parted}
 use Rattle.text.specs.Parts.{four_fields, field_length, field_from, fields_read}
 use Rattle.text.specs.declared.read.Field.{Field}
 use Rattle.text.specs.declared.read.Field.TheVariants as Field
-use Rattle.text.specs.declared.read.Fields.{Fields}
-use Rattle.text.specs.declared.read.Fields.TheVariants as Fields
+use lib.Pointwise.{pointwise}
+use Rattle.std.specs.List.{position_or_len}
+use Rattle.std.specs.Option.{unwrap_or}
+use Rattle.std.proofs.lemmas.List.Recursion.{is_position_or_len}
+use Rattle.std.specs.Prelude.{Option, Some, None}
 
 -- ---- texts that are the same
 
-pub lengths_differ : (xs ys : List ℕ) → (length xs ≡ length ys → ⊥) → same_numbers xs ys ≡ false
-lengths_differ xs ys h = go (same_numbers xs ys) refl
-  where
-    go : (t : Bool) → same_numbers xs ys ≡ t → same_numbers xs ys ≡ false
-    go true e = absurd (h (ap length (same_numbers_eq xs ys e)))
-    go false e = e
-
--- two texts are compared up to i
-module _ (xs ys : List ℕ) (i : ℕ) (h : i < length xs) (l : length xs ≡ length ys) where
-  at_i : same_numbers (drop i xs) (drop i ys) ≡ (eqb (get_or xs i 0) (get_or ys i 0) && same_numbers (drop (i + 1) xs) (drop (i + 1) ys))
-  unfolding same_numbers
-  at_i = let k : i < length ys = omega arith in simp (drop-cons xs i 0 h, drop-cons ys i 0 k, add-one)
-
-  pub same_differs : (get_or xs i 0 ≡ get_or ys i 0 → ⊥) → same_numbers (drop i xs) (drop i ys) ≡ false
-  same_differs n = at_i ∙ simp (ne_eqb (get_or xs i 0) (get_or ys i 0) n)
-
-  pub same_next : get_or xs i 0 ≡ get_or ys i 0 → same_numbers (drop i xs) (drop i ys) ≡ same_numbers (drop (i + 1) xs) (drop (i + 1) ys)
-  same_next e = at_i ∙ simp (eq-eqb (get_or xs i 0) (get_or ys i 0) e)
-
-pub same_end : (xs ys : List ℕ) (i : ℕ) → length xs ≤ i → length xs ≡ length ys → same_numbers (drop i xs) (drop i ys) ≡ true
+pub pointwise_same : (xs ys : List ℕ) → pointwise eqb xs ys ≡ same_numbers xs ys
 unfolding same_numbers
-same_end xs ys i h l = let k : length ys ≤ i = omega arith in simp (drop_of_length-le xs h, drop_of_length-le ys k)
+pointwise_same [] [] = refl
+pointwise_same [] (y ∷ ys) = refl
+pointwise_same (x ∷ xs) [] = refl
+pointwise_same (x ∷ xs) (y ∷ ys) = ap (λ (t : Bool). eqb x y && t) (pointwise_same xs ys)
 
 -- ---- the bytes before the first c
 
@@ -75,22 +62,26 @@ before_short c (b ∷ bs) = go (eqb b c) (before_short c bs)
     go true h = omega arith
     go false h = omega arith
 
--- in what is left from i on
-module _ (c : ℕ) (text : List ℕ) (i : ℕ) (h : i < length text) where
-  pub before_here : get_or text i 0 ≡ c → length (before c (drop i text)) ≡ 0
-  before_here e =
-      ap (λ (t : List ℕ). length (before c t)) (drop-cons text i 0 h)
-      ∙ ap length (before-found c (get_or text i 0) (drop (suc i) text) (eq-eqb (get_or text i 0) c e))
-
-  pub before-next : (get_or text i 0 ≡ c → ⊥) → length (before c (drop i text)) ≡ suc (length (before c (drop (i + 1) text)))
-  before-next n =
-      ap (λ (t : List ℕ). length (before c t)) (drop-cons text i 0 h)
-      ∙ ap length (before-other c (get_or text i 0) (drop (suc i) text) (ne_eqb (get_or text i 0) c n))
-      ∙ ap (λ (j : ℕ). suc (length (before c (drop j text)))) (sym (add-one i))
-
-pub before_end : (c : ℕ) (text : List ℕ) (i : ℕ) → length text ≤ i → length (before c (drop i text)) ≡ 0
+-- they end where the first c stands, or with the text
+before_position : (c : ℕ) (text : List ℕ) → length (before c text) ≡ position_or_len (λ b. eqb b c) text
 unfolding before
-before_end c text i h = simp (drop_of_length-le text h)
+before_position c text = is_position_or_len (λ bs. length (before c bs)) (λ b. eqb b c) refl (λ b bs. go b bs (eqb b c)) text
+  where
+    go : (b : ℕ) (bs : List ℕ) (t : Bool) → length (cond t [] (b ∷ before c bs)) ≡ cond t 0 (1 + length (before c bs))
+    go b bs true = refl
+    go b bs false = omega arith
+
+pub position_before : (c : ℕ) (text : List ℕ) (o : Option ℕ)
+    → (let k = position_or_len (λ b. eqb b c) text in o ≡ cond (ltb k (length text)) (Some k) None)
+    → unwrap_or o (length text) ≡ length (before c text)
+position_before c text o e =
+    let k = position_or_len (λ b. eqb b c) text in
+    ap (λ (o : Option ℕ). unwrap_or o (length text)) e ∙ go (ltb k (length text)) refl
+  where
+    go : (let k = position_or_len (λ b. eqb b c) text in (t : Bool) → ltb k (length text) ≡ t
+        → unwrap_or (cond t (Some k) None) (length text) ≡ length (before c text))
+    go true t = sym (before_position c text)
+    go false t = omega (arith, ltb-false (position_or_len (λ b. eqb b c) text) (length text) t, before_position c text, before_short c text)
 
 -- ---- the pieces
 
@@ -245,7 +236,7 @@ module _ (line : List ℕ) (a b c : ℕ) (four : FourParts line a b c) where
       ap (λ (ps : List (List ℕ)). eqb (length ps) 4 && every non_empty ps) four.parts
       ∙ all_non_empty (take a line) (part (a + 1) b line) (part (b + 1) c line) (part (c + 1) (length line) line) p q r s
 
-  pub parts-read : fields_read line ≡ Fields.Four a b c
+  pub parts-read : fields_read line ≡ Some (a, b, c)
   parts-read =
       let x : field_length line 0 ≡ a = ap (λ (ps : List (List ℕ)). length (get_or ps 0 [])) four.parts ∙ part-first in
       let g : field_length line 1 ≡ b - (a + 1) = ap (λ (ps : List (List ℕ)). length (get_or ps 1 [])) four.parts ∙ part-second in
@@ -452,7 +443,7 @@ module _ (line : List ℕ) (start : ℕ) where
 
 -- ---- the fields of a line, one after the other
 
-pub other-fields : (line : List ℕ) → Fields-from line 4 0 ≡ false → fields_read line ≡ Fields.Other
+pub other-fields : (line : List ℕ) → Fields-from line 4 0 ≡ false → fields_read line ≡ None
 unfolding four_fields
 other-fields line h = simp h
 

@@ -1,14 +1,8 @@
 -- What the functions of this crate come to.
-use Rattle.std.specs.Prelude.{ℕ, ◌+◌, ◌-◌, ◌^◌, min, Bool, ◌&&◌, not, cond, List, [], eqb, ℤ, pos, negsuc, length, get_or, drop}
+use Rattle.std.specs.Prelude.{ℕ, ◌+◌, ◌-◌, ◌^◌, min, Bool, ◌&&◌, not, cond, List, [], eqb, ℤ, pos, negsuc, length, get_or, drop, Option, Some, None}
 use Rattle.action.specs.Lists.{every}
-use Rattle.text.specs.declared.read.Signed.{Signed}
-use Rattle.text.specs.declared.read.Signed.TheVariants as Signed
-use Rattle.text.specs.declared.read.Mode.{Mode}
-use Rattle.text.specs.declared.read.Mode.TheVariants as Mode
 use Rattle.text.specs.declared.read.Field.{Field}
 use Rattle.text.specs.declared.read.Field.TheVariants as Field
-use Rattle.text.specs.declared.read.Fields.{Fields}
-use Rattle.text.specs.declared.read.Fields.TheVariants as Fields
 use Rattle.text.specs.Text.{space, before, pieces, is_signed, signed_of, in_modes, is_mode}
 
 -- the largest value that is told apart: a number above it is read as it
@@ -21,16 +15,16 @@ clamped (pos n) = pos (min n cap)
 clamped (negsuc n) = negsuc (min n (cap - 1))
 
 -- a text read as a signed number
-abbrev pub signed_read : List ℕ → Signed
-signed_read text = cond (is_signed text) (Signed.Value (clamped (signed_of text))) Signed.Other
+abbrev pub signed_read : List ℕ → Option ℤ
+signed_read text = cond (is_signed text) (Some (clamped (signed_of text))) None
 
 -- a number as a mode, if it is one
-abbrev pub mode_in : ℤ → Mode
-mode_in z = cond (in_modes z) (Mode.Value z) Mode.Other
+abbrev pub mode_in : ℤ → Option ℤ
+mode_in z = cond (in_modes z) (Some z) None
 
 -- a text read as a mode
-abbrev pub mode_read : List ℕ → Mode
-mode_read text = cond (is_mode text) (Mode.Value (signed_of text)) Mode.Other
+abbrev pub mode_read : List ℕ → Option ℤ
+mode_read text = cond (is_mode text) (Some (signed_of text)) None
 
 -- the field of a line that begins at a place, by where it ends
 abbrev pub field_from : List ℕ → ℕ → Field
@@ -49,9 +43,9 @@ abbrev pub field_length : List ℕ → ℕ → ℕ
 field_length line i = length (get_or (pieces space line) i [])
 
 -- four fields by where the first three end
-abbrev pub fields_read : List ℕ → Fields
+abbrev pub fields_read : List ℕ → Option (ℕ × ℕ × ℕ)
 fields_read line =
     let a = field_length line 0 in
     let b = a + 1 + field_length line 1 in
     let c = b + 1 + field_length line 2 in
-    cond (four_fields line) (Fields.Four a b c) Fields.Other
+    cond (four_fields line) (Some (a, b, c)) None

@@ -4,25 +4,17 @@ ghost use Rattle.text.specs.Names.{names_read};
 
 use crate::read;
 
-// The first line of a text, looked at for names.
-#[derive(Clone, Copy)]
-pub enum Names {
-    // It is these names, and ends at this place.
-    End(usize),
-    Other,
-}
-
 // Where the first line of a text ends, if it is these names.
-pub fn names_end(names: &[u8], text: &[u8]) -> Names
+pub fn names_end(names: &[u8], text: &[u8]) -> Option<usize>
     ensures { result ≡ names_read names.now text.now }
 {
     let k = read::find(text, 10);
     if k == text.len() {
-        return Names::Other;
+        return None;
     }
     if read::same(&text[0..k], names) {
-        Names::End(k)
+        Some(k)
     } else {
-        Names::Other
+        None
     }
 }

@@ -10,20 +10,6 @@ pub const CAP: u64 = 4294967296;
 // Modes lie below it, and no lower than minus it.
 pub const MODE_BOUND: i64 = 2147483648;
 
-// A text read as a signed number, no further from 0 than the cap.
-#[derive(Clone, Copy)]
-pub enum Signed {
-    Value(i64),
-    Other,
-}
-
-// A text read as a mode.
-#[derive(Clone, Copy)]
-pub enum Mode {
-    Value(i32),
-    Other,
-}
-
 // A field of a line.
 #[derive(Clone, Copy)]
 pub enum Field {
@@ -34,60 +20,25 @@ pub enum Field {
     Empty,
 }
 
-// The fields of a line.
-#[derive(Clone, Copy)]
-pub enum Fields {
-    // Four, none of them empty, by where the first three end.
-    Four(usize, usize, usize),
-    Other,
-}
-
 // Where the first such byte stands; the length where there is none.
 pub fn find(text: &[u8], byte: u8) -> usize
     ensures { result ≡ length (before byte text.now) }
 {
-    let mut i = 0;
-    while i < text.len() {
-        if text[i] == byte {
-            return i;
-        }
-        i += 1;
-    }
-    i
+    text.iter().position(|b| *b == byte).unwrap_or(text.len())
 }
 
 // Whether two texts are the same.
 pub fn same(a: &[u8], b: &[u8]) -> bool
     ensures { result ≡ same_numbers a.now b.now }
 {
-    if a.len() != b.len() {
-        return false;
-    }
-    let mut i = 0;
-    while i < a.len() {
-        if a[i] != b[i] {
-            return false;
-        }
-        i += 1;
-    }
-    true
+    a == b
 }
 
 // Whether a text holds digits alone.
 pub fn digits_alone(text: &[u8]) -> bool
     ensures { result ≡ every is_digit text.now }
 {
-    let mut i = 0;
-    while i < text.len() {
-        if text[i] < b'0' {
-            return false;
-        }
-        if b'9' < text[i] {
-            return false;
-        }
-        i += 1;
-    }
-    true
+    text.iter().all(|byte| byte.is_ascii_digit())
 }
 
 // Whether a text is a number in decimal, without leading zeros.
@@ -124,69 +75,64 @@ pub fn value(text: &[u8]) -> u64
     ensures { result ≡ min (number_of text.now) cap }
 {
     let mut v: u64 = 0;
-    let mut i = 0;
-    while i < text.len() {
-        v = capped(10 * v + digit(text[i]));
-        i += 1;
+    for byte in text {
+        v = capped(10 * v + digit(*byte));
     }
     v
 }
 
-// A signed number, however long the text is.
-pub fn read_signed(text: &[u8]) -> Signed
+// A signed number, no further from 0 than the cap, however long the text is.
+pub fn read_signed(text: &[u8]) -> Option<i64>
     ensures { result ≡ signed_read text.now }
 {
     if text.len() == 0 {
-        return Signed::Other;
+        return None;
     }
     if text[0] == b'-' {
         return negative(text);
     }
     if is_number(text) {
-        Signed::Value(value(text) as i64)
+        Some(value(text) as i64)
     } else {
-        Signed::Other
+        None
     }
 }
 
 // A signed number with a minus before it.
-pub fn negative(text: &[u8]) -> Signed
+pub fn negative(text: &[u8]) -> Option<i64>
     requires { (0 < length text.now) × (get_or text.now 0 0 ≡ minus) }
     ensures { result ≡ signed_read text.now }
 {
     let digits = &text[1..];
     if !is_number(digits) {
-        return Signed::Other;
+        return None;
     }
     let v = value(digits);
     if v == 0 {
-        return Signed::Other;
+        return None;
     }
-    Signed::Value(0 - (v as i64))
+    Some(0 - (v as i64))
 }
 
 // A number as a mode, if it is one.
-pub fn mode_in(number: i64) -> Mode
+pub fn mode_in(number: i64) -> Option<i32>
     ensures { result ≡ mode_in number }
 {
     if number < -MODE_BOUND {
-        return Mode::Other;
+        return None;
     }
     if number < MODE_BOUND {
-        Mode::Value(number as i32)
+        Some(number as i32)
     } else {
-        Mode::Other
+        None
     }
 }
 
 // A mode: a signed number of 32 bits.
-pub fn read_mode(text: &[u8]) -> Mode
+pub fn read_mode(text: &[u8]) -> Option<i32>
     ensures { result ≡ mode_read text.now }
 {
-    match read_signed(text) {
-        Signed::Value(z) => mode_in(z),
-        Signed::Other => Mode::Other,
-    }
+    mode_in(read_signed(text)?)
 }
 
 // The field of a line that begins at a place.
@@ -206,21 +152,21 @@ pub fn field_from(line: &[u8], start: usize) -> Field
     }
 }
 
-// The four fields of a line.
-pub fn four_fields(line: &[u8]) -> Fields
+// The four fields of a line, none of them empty, by where the first three end.
+pub fn four_fields(line: &[u8]) -> Option<(usize, usize, usize)>
     ensures { result ≡ fields_read line.now }
 {
     let Field::Ends(a) = field_from(line, 0) else {
-        return Fields::Other;
+        return None;
     };
     let Field::Ends(b) = field_from(line, a + 1) else {
-        return Fields::Other;
+        return None;
     };
     let Field::Ends(c) = field_from(line, b + 1) else {
-        return Fields::Other;
+        return None;
     };
     let Field::Last = field_from(line, c + 1) else {
-        return Fields::Other;
+        return None;
     };
-    Fields::Four(a, b, c)
+    Some((a, b, c))
 }

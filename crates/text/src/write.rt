@@ -11,12 +11,9 @@ pub fn append(list: &mut [u8], at: usize, text: &[u8]) -> usize
     ensures place { result ≡ at + length text.now }
     ensures list { list.new ≡ put at text.now list.old }
 {
-    let mut i = 0;
-    while i < text.len() {
-        list[at + i] = text[i];
-        i += 1;
-    }
-    at + i
+    let end = at + text.len();
+    list[at..end].copy_from_slice(text);
+    end
 }
 
 // Writes a number of at most MAX_DIGITS digits in decimal; the place after it.
@@ -40,6 +37,7 @@ pub fn fill_digits(digits: &mut [u8], number: usize) -> usize
     let mut rest = number;
     let mut i = MAX_DIGITS - 1;
     digits[i] = b'0' + (rest % 10) as u8;
+    // A while: the digits are as many as the number has.
     while 10 <= rest {
         rest = rest / 10;
         i = i - 1;

@@ -1,5 +1,4 @@
 -- `least_turns` meets its contract: what the X plane and then the Z plane leave of all turns are those that give the least word.
-use borrow.Author.Rules.{rules}
 use Rattle.cyclic.proofs.Refinement.{narrowed_turns}
 use Rattle.cyclic.proofs.least_turns.Goals as goal
 

@@ -1,31 +1,26 @@
--- `to_text` meets its contract: the checks pass or refuse, and the text of an accepted word is what stands beside the answer.
+-- `to_text` meets its contract: the checks pass or refuse, and the text of an accepted word is what it answers with.
 use Prim.Native.Nat.{ℕ, ◌-◌}
-use mathlib.Core.Path.{◌≡◌, sym, ap, ◌∙◌}
+use mathlib.Core.Path.{◌≡◌, sym, ap, ap₂, ◌∙◌}
 use mathlib.Core.List.{List, ◌++◌}
 use lib.ListN.{length, replicate, length-map}
 use Rattle.outcome.specs.declared.Refusal.{Refusal}
 use Rattle.pauli_word.specs.Limits.{max_sites}
-use Rattle.outcome.specs.Outcome.{answer, verdict, on_answer, or_else, outcome_of_verdict, refusal_of, given}
+use Rattle.outcome.specs.Outcome.{answer, verdict, on_answer, outcome_of, refusal_of}
 use Rattle.pauli_word.specs.Bytes.{EitherWord, word_in, letters_in}
 use Rattle.pauli_word.specs.Text.{glyph, spell}
-use Rattle.pauli_word.specs.Calls.{word_checks, to_text_outcome, to_text_bytes}
+use Rattle.pauli_word.specs.Calls.{word_checks, to_text_outcome, word_text}
 use Rattle.pauli_word.proofs.Planes.{bytes_of_lem}
 use Rattle.pauli_word.proofs.Words.{decode-length}
-use Rattle.outcome.proofs.Outcomes.{call-refused, call-answers}
+use Rattle.outcome.proofs.Outcomes.{call-refused, call-answers, handed_on}
 use Rattle.pauli_word.proofs.Forms.{either-length, either-accepted}
 use Rattle.pauli_word.proofs.Checks.{accepted}
-use borrow.Author.Rules.{rules}
 use Rattle.pauli_word.proofs.to_text.Goals as goal
 use Rattle.pauli_word.proofs.to_text.Lts as lts
 use Rattle.pauli_word.proofs.to_text.Tie as tie
 use Rattle.pauli_word.proofs.to_text.Reads as reads
 
-abbrev ctx-After-enum_told : Type 0
-ctx-After-enum_told = lts.Past-After-enum_told tie.the-claims reads.Pre reads.Post tie.handed_clauses
-
--- a text and zeros after it
-abbrev padded : List ℕ → List ℕ
-padded text = text ++ replicate (max_sites - length text) 0
+abbrev ctx-After-known_told : Type 0
+ctx-After-known_told = lts.Past-After-known_told tie.the-claims reads.Pre reads.Post tie.handed_clauses
 
 module _ (n : ℕ) (bytes : List ℕ) where
   refused-text : (why : Refusal) → verdict (word_checks n bytes) ≡ refusal_of why → to_text_outcome n bytes ≡ refusal_of why
@@ -40,10 +35,10 @@ module _ (n : ℕ) (bytes : List ℕ) where
   text-long ok = length-map (word_in n bytes) glyph ∙ decode-length (either-accepted n bytes ok)
 
 -- the word passes its checks
-passed : (c : ctx-After-enum_told) → let a = c.args in (verdict (word_checks a.n a.word.now) ≡ answer tt)
-passed c = sym c.checked.ensures ∙ ap outcome_of_verdict c.in-Accepted.is
+passed : (c : ctx-After-known_told) → let a = c.args in (verdict (word_checks a.n a.word.now) ≡ answer tt)
+passed c = sym c.checked.ensures ∙ ap outcome_of c.in_ok-checked.was
 
-either : (c : ctx-After-enum_told) → let a = c.args in EitherWord a.n a.word.now
+either : (c : ctx-After-known_told) → let a = c.args in EitherWord a.n a.word.now
 either c =
     let a = c.args in
     accepted a.n a.word.now (passed c) (bytes_of_lem a.word.now (λ i. (c.shared_slice_known-1.given i).fits))
@@ -54,25 +49,22 @@ in_full-full-requires c = either-length _ _ (either c.before)
 pub spelled-requires : goal.spelled-requires
 spelled-requires c = rw c.in_full-full.ensures (either-accepted _ _ (either c.before.before.before))
 
-pub returns-in-Refused : goal.returns-in-Refused
-unfolding to_text_bytes
-returns-in-Refused c =
+pub returns-in_err-checked : goal.returns-in_err-checked
+returns-in_err-checked c =
     let a = c.args in
-    let why = c.in-Refused.why in
-    let e = refused-text a.n a.word.now why (sym c.checked.ensures ∙ ap outcome_of_verdict c.in-Refused.is) in record {
-      answer = sym (ap (on_answer length) e);
-      text = sym (ap (or_else padded (replicate max_sites 0)) e);
-    }
+    ap outcome_of (handed_on c.from_residual.result c.from_residual.ensures.1)
+    ∙ sym
+    (ap (on_answer word_text)
+    (refused-text a.n a.word.now _ (sym c.checked.ensures ∙ ap outcome_of c.in_err-checked.was)))
 
-pub returns-in-Accepted : goal.returns-in-Accepted
-unfolding to_text_bytes
-returns-in-Accepted c =
+pub returns : goal.returns
+returns c =
     let a = c.args in
     let e = spelled-text a.n a.word.now (passed c.before.before.before.before) in
-    let l = text-long a.n a.word.now (either c.before.before.before.before) in record {
-      answer = ap answer (sym l) ∙ sym (ap (on_answer length) e);
-      text = c.spelled.ensures
-          ∙ ap (λ full. spell (letters_in a.n full) ++ replicate (max_sites - a.n) 0) c.in_full-full.ensures
-          ∙ ap (λ (k : ℕ). spell (word_in a.n a.word.now) ++ replicate (max_sites - k) 0) (sym l)
-          ∙ sym (ap (or_else padded (replicate max_sites 0)) e);
-    }
+    let l = text-long a.n a.word.now (either c.before.before.before.before) in
+    ap answer
+    (ap₂ (λ (k : ℕ) (text : List ℕ). record { letters = k; text = text }) (sym l)
+    (c.spelled.ensures
+    ∙ ap (λ full. spell (letters_in a.n full) ++ replicate (max_sites - a.n) 0) c.in_full-full.ensures
+    ∙ ap (λ (k : ℕ). spell (word_in a.n a.word.now) ++ replicate (max_sites - k) 0) (sym l)))
+    ∙ sym (ap (on_answer word_text) e)

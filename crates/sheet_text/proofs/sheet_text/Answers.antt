@@ -34,8 +34,8 @@ slice_bounds-append-end c =
     in
     omega (arith, p.ensures.place, sheet_fits input, long)
 
-pub returns-in-Accepted : goal.returns-in-Accepted
-returns-in-Accepted c =
+pub returns-in-Ok : goal.returns-in-Ok
+returns-in-Ok c =
     let input = c.args.input.now in
     let list = c.args.list.now in
     let p = c.print_sheet-written in
@@ -44,13 +44,13 @@ returns-in-Accepted c =
     let written =
     c.append.ensures.list ∙ ap (λ (t : List ℕ). put 0 t list) front ∙ sym (ap (list_after (sheet input) list) (list-long input (length list) room))
     in
-    let fine = ap outcome_of_lines (sym c.in-Accepted.is) ∙ p.ensures.answer in record {
+    let fine = ap outcome_of_lines (sym c.in-Ok.is) ∙ p.ensures.answer in record {
       answer = ap (λ (k : ℕ). answer (table_page k)) p.ensures.place ∙ page-table input (length list) room fine;
       list = written;
     }
 
-pub returns-in-Refused : goal.returns-in-Refused
-returns-in-Refused c =
+pub returns-in-Err : goal.returns-in-Err
+returns-in-Err c =
     let input = c.args.input.now in
     let list = c.args.list.now in
     let p = c.print_sheet-written in
@@ -59,9 +59,9 @@ returns-in-Refused c =
     let written =
     c.append.ensures.list ∙ ap (λ (t : List ℕ). put 0 t list) front ∙ sym (ap (list_after (sheet input) list) (list-long input (length list) room))
     in
-    let why = c.in-Refused.why in
-    let line = c.in-Refused.line in
-    let broken = ap outcome_of_lines (sym c.in-Refused.is) ∙ p.ensures.answer in record {
+    let why = c.in-Err.fault.why in
+    let line = c.in-Err.fault.line in
+    let broken = ap outcome_of_lines (sym c.in-Err.is) ∙ p.ensures.answer in record {
       answer =
           ap (λ (k : ℕ). answer (refusal_page (rule_number why) line (rule_values why) k)) p.ensures.place
           ∙ page-refused input (length list) room why line broken;

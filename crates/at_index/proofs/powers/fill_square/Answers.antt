@@ -1,7 +1,7 @@
-use Prim.Native.Nat.{ℕ, ◌+◌, ◌-◌, ◌≤◌}
-use mathlib.Core.Path.{◌≡◌, refl, sym, ap, ◌∙◌}
+use Prim.Native.Nat.{ℕ, ◌+◌}
+use mathlib.Core.Path.{refl, sym, ap, ◌∙◌}
 use native.Mathlib.Omega.{arith}
-use lib.ListN.{length, set, take, length-set}
+use lib.ListN.{set, take, length-set}
 use Rattle.pauli_word.proofs.Copies.{copy_next, copy_end}
 use Rattle.at_index.specs.Powers.{squared}
 use Rattle.at_index.proofs.Squares.{squared-length, squared-at}
@@ -27,12 +27,6 @@ offset_bounds-out-q c = omega arith
 
 pub bounds-out-q : goal.bounds-out-q
 bounds-out-q c = omega arith
-
-pub overflow_add-q : goal.overflow_add-q
-overflow_add-q c = omega arith
-
-pub loop-q-smaller : goal.loop-q-smaller
-loop-q-smaller c = omega arith
 
 pub loop-q-preserved : goal.loop-q-preserved
 loop-q-preserved c =

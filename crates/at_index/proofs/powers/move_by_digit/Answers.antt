@@ -4,7 +4,6 @@ use mathlib.Core.Path.{◌≡◌, sym, ap, ◌∙◌}
 use native.Mathlib.Omega.{arith}
 use Rattle.action.specs.Orbit.{moves}
 use Rattle.elements.specs.Letters.{codes}
-use borrow.Author.Rules.{rules}
 use Rattle.at_index.proofs.powers.move_by_digit.Goals as goal
 
 pub returns-then-digit-eq1 : goal.returns-then-digit-eq1

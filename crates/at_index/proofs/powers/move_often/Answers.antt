@@ -1,10 +1,8 @@
-use mathlib.Core.Path.{◌≡◌, refl, sym, ◌∙◌}
+use mathlib.Core.Path.{refl, sym, ◌∙◌}
 use native.Mathlib.Omega.{arith}
-use lib.ListN.{length}
-use Rattle.action.specs.Permutation.{Permutes}
 use Rattle.action.specs.Orbit.{moves}
 use Rattle.at_index.proofs.Squares.{squared-permutes}
-use Rattle.at_index.proofs.Going.{Going, going_start, going-last, halved_next}
+use Rattle.at_index.proofs.Going.{going_start, going-last, halved_next}
 use Rattle.at_index.proofs.powers.move_often.Goals as goal
 
 pub loop-left-init : goal.loop-left-init

@@ -1,12 +1,10 @@
 -- `powers::move_often` meets its contract. The loop's invariant: perm permutes the sites, and the moves by it that are left make of the word at hand
 -- what all moves make of the first.
-use mathlib.Core.Path.{◌≡◌, refl, sym, ◌∙◌}
-use native.Mathlib.Omega.{arith}
+use mathlib.Core.Path.{◌≡◌}
 use lib.ListN.{length}
 use Rattle.action.specs.Permutation.{Permutes}
 use Rattle.action.specs.Orbit.{moves}
-use Rattle.at_index.proofs.Squares.{squared-permutes}
-use Rattle.at_index.proofs.Going.{Going, going_start, going-last, halved_next}
+use Rattle.at_index.proofs.Going.{Going}
 use Rattle.at_index.proofs.powers.move_often.Given as goal
 
 abbrev pub invariant-loop-left : goal.invariant-loop-left

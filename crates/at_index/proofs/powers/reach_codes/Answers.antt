@@ -1,19 +1,15 @@
-use Prim.Native.Nat.{◌-◌, ◌≤◌}
-use mathlib.Core.Path.{◌≡◌, sym, ◌∙◌}
+use mathlib.Core.Path.{sym, ◌∙◌}
 use native.Mathlib.Omega.{arith}
-use lib.ListN.{length}
-use Rattle.action.specs.Orbit.{reach}
 use Rattle.elements.specs.HeldGroup.{generators_in}
 use Rattle.elements.proofs.TableRows.{order-positive-at}
 use Rattle.elements.proofs.Steps.{row-part, part_permutes}
-use Rattle.rotation.proofs.Reached.{rest_of}
-use Rattle.at_index.proofs.Going.{Going, reached_first, reached-next, reached-end}
+use Rattle.at_index.proofs.Going.{reached_first, reached-next, reached-end}
 use Rattle.at_index.proofs.powers.reach_codes.Goals as goal
 
 pub loop-g-init : goal.loop-g-init
 loop-g-init c =
     let a = c.args in
-    let gs = generators_in a.generators a.sites a.targets.now a.orders.now in
+    let gs = generators_in a.group.now.generators a.group.now.sites a.group.now.targets.now a.group.now.orders.now in
     (omega arith, c.requires.perm_len, c.requires.room_len, c.requires.here_len, c.requires.spare_len, reached_first gs a.index a.here.now)
 
 pub overflow_mul-start : goal.overflow_mul-start
@@ -66,17 +62,11 @@ move_often-requires c =
 pub nonzero_div-rest : goal.nonzero_div-rest
 nonzero_div-rest c = order-positive-at c.requires.tables c.loop-g.g c.loop-g-test.true
 
-pub overflow_add-g : goal.overflow_add-g
-overflow_add-g c = omega (arith, c.requires.tables.few, c.loop-g-test.true)
-
-pub loop-g-smaller : goal.loop-g-smaller
-loop-g-smaller c = omega (arith, c.loop-g-test.true)
-
 pub loop-g-preserved : goal.loop-g-preserved
 loop-g-preserved c =
     let l = c.loop-g in
     let more = c.loop-g-test.true in
-    let row = c.copy.ensures ∙ row-part c.args.sites l.g c.args.targets.now in (
+    let row = c.copy.ensures ∙ row-part c.args.group.now.sites l.g c.args.group.now.targets.now in (
       omega (arith, more),
       c.move_often.auto.perm ∙ c.copy.auto.dst ∙ l.invariant.1,
       c.move_often.auto.room ∙ l.invariant.2,

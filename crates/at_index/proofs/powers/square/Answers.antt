@@ -1,6 +1,5 @@
 -- `powers::square` meets its contract.
 use mathlib.Core.Path.{◌∙◌}
-use borrow.Author.Rules.{rules}
 use Rattle.at_index.proofs.powers.square.Goals as goal
 
 pub returns : goal.returns

@@ -1,7 +1,6 @@
 -- `word::by_rotations` meets its contract: the planes have a bit for each site.
 use mathlib.Core.Path.{refl}
 use Rattle.rotation.proofs.Packs.{fresh-length}
-use borrow.Author.Rules.{rules}
 use Rattle.at_index.proofs.word.by_rotations.Goals as goal
 
 pub turned-requires : goal.turned-requires

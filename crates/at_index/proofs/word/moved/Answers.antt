@@ -3,7 +3,6 @@ use mathlib.Core.Path.{◌∙◌}
 use Rattle.pauli_word.specs.Bytes.{letters_in}
 use Rattle.action.specs.Orbit.{reach}
 use Rattle.elements.specs.HeldGroup.{generators_in}
-use borrow.Author.Rules.{rules}
 use Rattle.at_index.proofs.word.moved.Goals as goal
 
 pub reach_codes-requires : goal.reach_codes-requires
@@ -18,6 +17,6 @@ reach_codes-requires c = record {
 pub returns : goal.returns
 returns c =
     let a = c.args in
-    let w = letters_in a.sites a.word.now in
-    let gs = generators_in a.generators a.sites a.targets.now a.orders.now in
+    let w = letters_in a.group.now.sites a.word.now in
+    let gs = generators_in a.group.now.generators a.group.now.sites a.group.now.targets.now a.group.now.orders.now in
     c.pack.ensures (reach gs a.index w) (c.reach_codes.ensures w c.unpack.ensures)

@@ -2,7 +2,6 @@
 use mathlib.Core.Path.{ap, ◌∙◌}
 use Rattle.pauli_word.specs.Bytes.{bytes_of}
 use Rattle.rotation.proofs.Packs.{own-length}
-use borrow.Author.Rules.{rules}
 use Rattle.at_index.proofs.word.turned.Goals as goal
 
 pub reach-requires : goal.reach-requires

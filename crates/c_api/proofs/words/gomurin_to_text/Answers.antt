@@ -1,19 +1,13 @@
--- `gomurin_to_text` meets its contract: it tells what `pauli_word::to_text` comes to.
-use Rattle.c_api.proofs.Telling.{else-told, number-told, values-told}
-use Rattle.outcome.specs.Outcome.{itself}
-use Rattle.pauli_word.specs.Calls.{to_text_outcome}
-use lib.ListN.{length}
-use mathlib.Core.Path.{◌∙◌}
+-- `gomurin_to_text` meets its contract: it writes the text that `pauli_word::to_text` answers, or zeros.
+use Rattle.pauli_word.specs.declared.WordText.{WordText}
+use Rattle.pauli_word.specs.Calls.{to_text_outcome, word_text, to_text_bytes}
+use Rattle.c_api.proofs.Telling.{part-told}
+use mathlib.Core.Path.{ap, ◌∙◌}
 use borrow.Author.Rules.{rules}
 use Rattle.c_api.proofs.words.gomurin_to_text.Goals as goal
 
-pub returns : goal.returns
-returns c =
-    let a = c.args in
-    let o = to_text_outcome a.n a.word.now in
-    let e = c.to_text-written.ensures.answer in record {
-      number = c.number.ensures.number ∙ number-told length o e;
-      letters = c.number.ensures.value ∙ else-told length o e itself 0;
-      text = c.to_text-written.ensures.text;
-      values = c.number.ensures.values ∙ values-told length o e;
-    }
+pub returns-clause-text : goal.returns-clause-text
+unfolding to_text_bytes
+returns-clause-text c =
+    let own = λ (r : WordText). r.text in
+    ap own c.unwrap_or-written.ensures ∙ part-told word_text (to_text_outcome c.args.n c.args.word.now) own _ _ c.to_text-answer.ensures

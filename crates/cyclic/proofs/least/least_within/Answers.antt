@@ -1,5 +1,4 @@
 -- `least::least_within` meets its contract: packed, turned by what the start of the least turns is short of their step, and unpacked.
-use borrow.Author.Rules.{rules}
 use Rattle.rotation.proofs.Packs.{own-length}
 use Rattle.cyclic.proofs.Cycles.{found, index_blocks}
 use Rattle.cyclic.proofs.least.least_within.Goals as goal

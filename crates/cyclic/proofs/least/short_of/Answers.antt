@@ -1,5 +1,4 @@
 -- `least::short_of` meets its contract: start 0 is short of nothing, and any other start of what is left of the step.
-use borrow.Author.Rules.{rules}
 use native.Mathlib.Omega.{arith}
 use Rattle.cyclic.proofs.Cycles.{short_zero, short_some}
 use Rattle.cyclic.proofs.least.short_of.Goals as goal

@@ -1,12 +1,8 @@
 -- `refine::refine` meets its contract. The loop's invariant: the turns left are those that the blocks passed leave. Where one is left, the rest leave it.
-use Prim.Native.Nat.{ℕ, ◌-◌, ◌%◌, ◌≤◌}
-use mathlib.Core.Path.{◌≡◌, ◌∙◌, subst}
-use native.Mathlib.Nat.{zero-mod, add-mod_right}
-use native.Mathlib.Omega.{arith}
+use Prim.Native.Nat.{◌-◌, ◌%◌, ◌≤◌}
+use mathlib.Core.Path.{◌≡◌}
 use Rattle.packed.specs.Packed.{bit_of}
 use Rattle.cyclic.specs.Narrowing.{Narrowed}
-use Rattle.cyclic.proofs.Symbols.{whole_symbols, block_more}
-use Rattle.cyclic.proofs.Refinement.{narrowed_none, narrowed_more, narrowed_alone}
 use Rattle.cyclic.proofs.refine.refine.Given as goal
 
 abbrev pub invariant-loop-base : goal.invariant-loop-base

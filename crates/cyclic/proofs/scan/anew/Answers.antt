@@ -1,6 +1,5 @@
 -- `scan::anew` meets its contract.
 use borrow.Author.Tests.{eq-eqb, ne_eqb}
-use borrow.Author.Rules.{rules}
 use Rattle.cyclic.proofs.scan.anew.Goals as goal
 
 pub returns-then-i-j : goal.returns-then-i-j

@@ -5,7 +5,6 @@ use native.Mathlib.Nat.{mod-lt}
 use native.Mathlib.Omega.{arith}
 use Rattle.packed.specs.Packed.{bit_of}
 use Rattle.packed.proofs.Packing.{bit_of_past}
-use borrow.Author.Rules.{rules}
 use Rattle.cyclic.proofs.scan.bit.Goals as goal
 
 pub overflow_add-q : goal.overflow_add-q

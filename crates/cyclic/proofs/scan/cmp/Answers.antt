@@ -1,4 +1,4 @@
-use Prim.Native.Nat.{ℕ, ◌+◌, ◌-◌, ◌≤◌, ◌<◌}
+use Prim.Native.Nat.{ℕ, ◌+◌}
 use mathlib.Core.Path.{◌≡◌, sym, ◌∙◌, ap}
 use mathlib.Core.Bool.{Bool, not}
 use native.Mathlib.Omega.{arith}
@@ -36,12 +36,6 @@ pub returns-then-a-b : goal.returns-then-a-b
 returns-then-a-b c =
     let l = c.loop-y in
     (l.y, omega arith, l.invariant.1, sym c.bit-a.ensures ∙ c.if-a.false, sym c.bit-b.ensures ∙ bit-apart c.bit-a.result c.bit-b.result c.if-a-b.true ∙ ap not c.if-a.false)
-
-pub overflow_add-y : goal.overflow_add-y
-overflow_add-y c = omega arith
-
-pub loop-y-smaller : goal.loop-y-smaller
-loop-y-smaller c = omega arith
 
 pub loop-y-preserved : goal.loop-y-preserved
 loop-y-preserved c =

@@ -5,7 +5,6 @@ use mathlib.Core.Bool.{Bool}
 use native.Mathlib.Omega.{arith}
 use Rattle.packed.specs.Packed.{bit_of, Compared}
 use Rattle.cyclic.proofs.Symbols.{symbols_fit, symbol_fits, symbol-round}
-use borrow.Author.Rules.{rules}
 use Rattle.cyclic.proofs.scan.compare.Goals as goal
 
 pub overflow_add-s : goal.overflow_add-s

@@ -2,7 +2,7 @@ use Prim.Native.Nat.{ℕ, ◌+◌, ◌*◌, ◌-◌, ◌<◌}
 use mathlib.Core.Path.{sym, subst, subst₂}
 use mathlib.Core.Bool.{Bool}
 use native.Mathlib.Omega.{arith}
-use borrow.Author.Tests.{ltb-true, ltb-false}
+use borrow.Author.Tests.{ltb-true}
 use Rattle.packed.specs.Packed.{bit_of}
 use Rattle.packed.proofs.Masks.{block_fits}
 use Rattle.cyclic.specs.Narrowing.{Narrowed}

@@ -1,16 +1,8 @@
 -- `scan::narrow` meets its contract. The loop's invariant is that of the scan; the measure is what is left of three times round.
-use Prim.Native.Nat.{ℕ, ◌+◌, ◌*◌, ◌-◌, ◌<◌}
-use mathlib.Core.Path.{sym, subst, subst₂}
-use mathlib.Core.Logic.{⊎_elim}
-use mathlib.Core.Bool.{Bool}
-use native.Mathlib.Omega.{arith}
-use borrow.Author.Tests.{ltb-true, ltb-false}
+use Prim.Native.Nat.{◌+◌, ◌-◌}
 use Rattle.packed.specs.Packed.{bit_of}
-use Rattle.packed.proofs.Masks.{block_fits}
-use Rattle.cyclic.specs.Narrowing.{Narrowed}
-use Rattle.cyclic.specs.declared.scan.Scan.{Scan}
-use Rattle.cyclic.proofs.Scans.{Scanning, scan-start}
-use Rattle.cyclic.proofs.Symbols.{SameSymbol, LessSymbol, symbols-ring, scan-next, scan-narrowed, scan_grows, symbols_fit}
+use Rattle.cyclic.proofs.Scans.{Scanning}
+use Rattle.cyclic.proofs.Symbols.{SameSymbol, LessSymbol}
 use Rattle.cyclic.proofs.scan.narrow.Given as goal
 
 abbrev pub invariant-loop-s : goal.invariant-loop-s

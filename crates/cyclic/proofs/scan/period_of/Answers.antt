@@ -1,7 +1,6 @@
 -- `scan::period_of` meets its contract, by cases.
 use borrow.Author.Tests.{lt-ltb, le-ltb}
 use native.Mathlib.Omega.{arith}
-use borrow.Author.Rules.{rules}
 use Rattle.cyclic.proofs.scan.period_of.Goals as goal
 
 pub returns-then-s-m : goal.returns-then-s-m

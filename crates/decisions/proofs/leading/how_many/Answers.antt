@@ -1,9 +1,7 @@
-use Prim.Native.Nat.{ℕ, ◌+◌, ◌-◌, ◌≤◌}
+use Prim.Native.Nat.{ℕ, ◌+◌, ◌≤◌}
 use mathlib.Core.Path.{◌≡◌, refl, sym, ap, ap₂, ◌∙◌}
-use mathlib.Core.Logic.{⊎_elim}
 use mathlib.Core.Bool.{cond}
 use native.Mathlib.Omega.{arith}
-use borrow.Author.Rules.{rules}
 use Rattle.action.specs.Lists.{from, below, count}
 use Rattle.packed.specs.Packed.{bit_of}
 use Rattle.decisions.proofs.Traversals.{count_next}
@@ -34,12 +32,6 @@ pub overflow_add-count : goal.overflow_add-count
 overflow_add-count c =
     let l = c.loop-k in
     omega (arith, few c.before, l.invariant.1, c.loop-k-test.true, c.ranges.bound.fits)
-
-pub overflow_add-k : goal.overflow_add-k
-overflow_add-k c = omega (arith, c.loop-k-test.true, c.ranges.bound.fits)
-
-pub loop-k-smaller : goal.loop-k-smaller
-loop-k-smaller c = omega (arith, c.loop-k-test.true)
 
 pub loop-k-preserved : goal.loop-k-preserved
 loop-k-preserved c =

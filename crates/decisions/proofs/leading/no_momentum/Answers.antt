@@ -1,12 +1,10 @@
-use Prim.Native.Nat.{◌-◌, ◌≤◌}
 use mathlib.Core.Path.{sym, ◌∙◌}
 use mathlib.Core.Bool.{false≢true, true≢false}
 use native.Mathlib.Omega.{arith}
 use lib.ListN.{get_or}
 use lib.IntN.{pos}
-use Rattle.elements.specs.HeldGroup.{generators_in}
 use Rattle.elements.proofs.TableRows.{order-positive-at}
-use Rattle.decisions.proofs.Differences.{Still, reduced_read, still-start, still-next, still-end}
+use Rattle.decisions.proofs.Differences.{reduced_read, still-start, still-next, still-end}
 use Rattle.decisions.proofs.leading.no_momentum.Goals as goal
 
 pub loop-g-init : goal.loop-g-init
@@ -37,17 +35,11 @@ returns-then-reduced_mode-ne0 c = record {
   no = λ e. omega (arith, c.loop-g-test.true);
 }
 
-pub overflow_add-g : goal.overflow_add-g
-overflow_add-g c = omega (arith, c.requires.tables.few)
-
-pub loop-g-smaller : goal.loop-g-smaller
-loop-g-smaller c = omega (arith, c.loop-g-test.true)
-
 pub loop-g-preserved : goal.loop-g-preserved
 loop-g-preserved c =
     let l = c.loop-g in
     let k = get_or c.args.modes.now l.g (pos 0) in
-    let read = reduced_read (get_or c.args.orders.now l.g 0) k c.reduced_mode-arg-1.given c.reduced_mode.ensures in (
+    let read = reduced_read (get_or c.args.group.now.orders.now l.g 0) k c.reduced_mode-arg-1.given c.reduced_mode.ensures in (
       omega (arith, c.loop-g-test.true),
       still-next c.requires.tables c.args.modes.now c.requires.modes_len l.g c.loop-g-test.true (sym read ∙ omega (arith, c.if-reduced_mode-ne0.false)) l.invariant.1,
     )

@@ -1,5 +1,4 @@
 -- `leading::placed_by_leading` meets its contract: where every mode reduces to 0 the word is kept (`zeros-kept`), and else the indices decide.
-use borrow.Author.Rules.{rules}
 use Rattle.decisions.proofs.Differences.{zeros-kept}
 use Rattle.decisions.proofs.leading.placed_by_leading.Goals as goal
 

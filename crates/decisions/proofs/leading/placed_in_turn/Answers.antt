@@ -1,16 +1,13 @@
-use Prim.Native.Nat.{◌-◌, ◌<◌, ◌≤◌}
+use Prim.Native.Nat.{◌<◌}
 use mathlib.Core.Path.{◌≡◌, refl, sym, ◌∙◌}
-use mathlib.Core.Logic.{⊎_elim}
 use native.Mathlib.Nat.{zero-mod}
 use native.Mathlib.Omega.{arith}
 use lib.ListN.{get_or}
-use borrow.Author.Rules.{rules}
 use Rattle.action.specs.Index.{order_of}
 use Rattle.elements.specs.HeldGroup.{generators_in}
 use Rattle.elements.proofs.TableRows.{order-positive-at}
-use Rattle.packed.specs.Packed.{bit_of}
 use Rattle.decisions.proofs.Traversals.{passed_start, passed-moves, passed-fixes, placed-broken}
-use Rattle.decisions.proofs.Differences.{Stands, Told, sum-tests, traversed-kept}
+use Rattle.decisions.proofs.Differences.{sum-tests, traversed-kept}
 use Rattle.decisions.proofs.leading.placed_in_turn.Goals as goal
 use Rattle.decisions.proofs.leading.placed_in_turn.Goals.{in-Fixes, in-Moves}
 use Rattle.decisions.proofs.leading.placed_in_turn.Lts as lts
@@ -25,10 +22,10 @@ nonzero_rem-at c = order-positive-at c.requires.tables 0 c.requires.generators_n
 
 pub loop-d-init : goal.loop-d-init
 loop-d-init c =
-    let gs = generators_in c.args.generators c.args.sites c.args.targets.now c.args.orders.now in (
+    let gs = generators_in c.args.group.now.generators c.args.group.now.sites c.args.group.now.targets.now c.args.group.now.orders.now in (
       omega arith,
       omega arith,
-      (c.add-sum.ensures, sym (zero-mod (get_or c.args.orders.now 0 0)), refl),
+      (c.add-sum.ensures, sym (zero-mod (get_or c.args.group.now.orders.now 0 0)), refl),
       λ w long leads back. passed_start gs c.args.modes.now w,
     )
 
@@ -41,14 +38,14 @@ tested-requires c = record {
 
 -- index d is below the order
 inside : (c : ctx-After-tested)
-    → (c.loop-d.d < order_of (generators_in c.args.generators c.args.sites c.args.targets.now c.args.orders.now))
+    → (c.loop-d.d < order_of (generators_in c.args.group.now.generators c.args.group.now.sites c.args.group.now.targets.now c.args.group.now.orders.now))
 inside c = omega (arith, c.loop-d-test.true, c.requires.order_value)
 
 pub returns-in-Breaks : goal.returns-in-Breaks
 returns-in-Breaks c w long leads back =
     let l = c.loop-d in
     let ks = c.args.modes.now in
-    let gs = generators_in c.args.generators c.args.sites c.args.targets.now c.args.orders.now in
+    let gs = generators_in c.args.group.now.generators c.args.group.now.sites c.args.group.now.targets.now c.args.group.now.orders.now in
     let within = inside c.before.before in
     placed-broken gs ks w l.d (l.invariant.3 w long leads back) within
     (sum-tests c.requires.tables.valid ks w long leads back l.d within l.invariant.2.0 c.tested.ensures ∙ c.in-Breaks.is)
@@ -65,17 +62,11 @@ stepped-at-requires c =
       sum_value = l.invariant.2;
     }
 
-pub overflow_add-d : goal.overflow_add-d
-overflow_add-d c = omega (arith, inside c.before.before.before, c.requires.tables.small)
-
-pub loop-d-smaller : goal.loop-d-smaller
-loop-d-smaller c = omega (arith, c.loop-d-test.true)
-
 pub loop-d-preserved : goal.loop-d-preserved
 loop-d-preserved c =
     let l = c.loop-d in
     let ks = c.args.modes.now in
-    let gs = generators_in c.args.generators c.args.sites c.args.targets.now c.args.orders.now in
+    let gs = generators_in c.args.group.now.generators c.args.group.now.sites c.args.group.now.targets.now c.args.group.now.orders.now in
     let came = c.match-tested.branch in (
       omega (arith, c.loop-d-test.true),
       elim came [ in-Fixes v ↦ omega (arith, l.invariant.1, v.count-is) | in-Moves v ↦ omega (arith, l.invariant.1, v.count-is) ],
@@ -89,6 +80,6 @@ loop-d-preserved c =
 pub returns : goal.returns
 returns c w long leads back =
     let l = c.loop-d in
-    let gs = generators_in c.args.generators c.args.sites c.args.targets.now c.args.orders.now in
+    let gs = generators_in c.args.group.now.generators c.args.group.now.sites c.args.group.now.targets.now c.args.group.now.orders.now in
     let all : l.d ≡ order_of gs = omega (arith, c.requires.order_value, l.invariant.0, c.loop-d-test.false) in
     traversed-kept c.requires.tables.valid c.args.modes.now w long leads back (l.invariant.3 w long leads back) all c.requires.order_value c.size_by.ensures

@@ -1,6 +1,5 @@
 -- `leading::tested` meets its contract.
 use mathlib.Core.Path.{sym, ◌∙◌}
-use borrow.Author.Rules.{rules}
 use borrow.Author.Tests.{not-true, not-false}
 use Rattle.decisions.proofs.leading.tested.Goals as goal
 

@@ -1,13 +1,11 @@
-use Prim.Native.Nat.{◌+◌, ◌-◌, ◌*◌, ◌≤◌}
+use Prim.Native.Nat.{◌≤◌}
 use mathlib.Core.Path.{◌≡◌}
 use native.Mathlib.Nat.{zero-add}
 use native.Mathlib.Omega.{arith}
-use lib.ListN.{get_or, drop}
+use lib.ListN.{get_or}
 use lib.IntN.{pos}
 use Rattle.decisions.proofs.Phases.{turn, turn_small, turn_read, sum-next, sum-numerator, modulus-small, modulus-positive}
-use Rattle.action.specs.Sector.{phases}
 use Rattle.permutation.specs.Limits.{max_order}
-use Rattle.elements.specs.HeldGroup.{generators_in}
 use Rattle.elements.proofs.TableRows.{order-positive-at}
 use Rattle.decisions.proofs.phase.numerator.Goals as goal
 use Rattle.decisions.proofs.phase.numerator.Lts as lts
@@ -46,10 +44,10 @@ phase-sum-requires c = order-positive-at c.requires.tables c.loop-g.g c.loop-g-t
 -- what this generator adds
 adds : (c : ctx-After-phase)
     → let l = c.loop-g in
-    (c.phase-sum.result ≡ turn c.args.modulus (get_or c.args.orders.now l.g 0) (get_or c.args.modes.now l.g (pos 0)) (get_or c.args.counter.now l.g 0))
+    (c.phase-sum.result ≡ turn c.args.modulus (get_or c.args.group.now.orders.now l.g 0) (get_or c.args.modes.now l.g (pos 0)) (get_or c.args.counter.now l.g 0))
 adds c =
     let g = c.loop-g.g in
-    turn_read c.args.modulus (get_or c.args.orders.now g 0) (get_or c.args.modes.now g (pos 0)) (get_or c.args.counter.now g 0)
+    turn_read c.args.modulus (get_or c.args.group.now.orders.now g 0) (get_or c.args.modes.now g (pos 0)) (get_or c.args.counter.now g 0)
     c.phase-sum.result c.phase-arg-1.given c.phase-sum.ensures
 
 -- and it is at most the order limit
@@ -59,19 +57,13 @@ small c =
     omega (
       arith,
       adds c,
-      turn_small c.args.modulus (get_or c.args.orders.now g 0) (get_or c.args.modes.now g (pos 0)) (get_or c.args.counter.now g 0)
+      turn_small c.args.modulus (get_or c.args.group.now.orders.now g 0) (get_or c.args.modes.now g (pos 0)) (get_or c.args.counter.now g 0)
           (order-positive-at c.requires.tables g c.loop-g-test.true),
       modulus-small c.requires.tables c.args.modulus c.requires.modulus_value,
     )
 
 pub overflow_add-sum : goal.overflow_add-sum
 overflow_add-sum c = omega (arith, small c.before, c.requires.tables.few)
-
-pub overflow_add-g : goal.overflow_add-g
-overflow_add-g c = omega (arith, c.requires.tables.few)
-
-pub loop-g-smaller : goal.loop-g-smaller
-loop-g-smaller c = omega arith
 
 pub loop-g-preserved : goal.loop-g-preserved
 loop-g-preserved c =

@@ -1,6 +1,5 @@
 -- `phase::numerator_at` meets its contract: the first places of the counter are the digits of the index (`counter-digits`).
 use mathlib.Core.Path.{ap, ◌∙◌}
-use borrow.Author.Rules.{rules}
 use Rattle.action.specs.Sector.{numerator}
 use Rattle.elements.specs.HeldGroup.{generators_in}
 use Rattle.decisions.proofs.Phases.{counter-digits, counter-length}
@@ -15,6 +14,6 @@ numerator-requires c = record {
 
 pub returns : goal.returns
 returns c =
-    let gs = generators_in c.args.generators c.args.sites c.args.targets.now c.args.orders.now in
+    let gs = generators_in c.args.group.now.generators c.args.group.now.sites c.args.group.now.targets.now c.args.group.now.orders.now in
     c.numerator.ensures
     ∙ ap (numerator gs c.args.modes.now) (counter-digits c.requires.tables c.args.index _ _ c.fill_counter.ensures)

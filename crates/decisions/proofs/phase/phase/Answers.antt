@@ -6,7 +6,6 @@ use native.Mathlib.Omega.{arith}
 use mir.Syntax.{w32}
 use mir.ValLaws.{to_z-of_z}
 use Rattle.action.specs.Sector.{reduced}
-use borrow.Author.Rules.{rules}
 use Rattle.decisions.proofs.Remainders.{reduced-below}
 use Rattle.decisions.proofs.Phases.{turn, turn_small, product_fits}
 use Rattle.decisions.proofs.phase.phase.Goals as goal

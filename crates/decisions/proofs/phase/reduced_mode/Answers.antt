@@ -1,7 +1,6 @@
 -- `phase::reduced_mode` meets its contract: the remainder is the reduced mode, or below zero and the order less than it (`corrected`, `uncorrected`).
 use mathlib.Core.Path.{ap}
 use lib.IntN.{nat_abs}
-use borrow.Author.Rules.{rules}
 use Rattle.decisions.proofs.Remainders.{widen-fits, quotient_fits, sum_fits, corrected, uncorrected, cast_fits}
 use Rattle.decisions.proofs.phase.reduced_mode.Goals as goal
 

@@ -2,7 +2,6 @@
 use Prim.Native.Nat.{ℕ}
 use mathlib.Core.Path.{ap}
 use lib.Dec.{eqb}
-use borrow.Author.Rules.{rules}
 use Rattle.action.specs.Sector.{trivial}
 use Rattle.decisions.proofs.phase.trivial.Goals as goal
 

@@ -1,16 +1,13 @@
-use Prim.Native.Nat.{◌-◌, ◌≤◌, ◌<◌}
-use mathlib.Core.Path.{◌≡◌, refl, sym, ap, ◌∙◌}
-use mathlib.Core.Logic.{⊎_elim}
+use Prim.Native.Nat.{◌<◌}
+use mathlib.Core.Path.{◌≡◌, sym, ap, ◌∙◌}
 use native.Mathlib.Omega.{arith}
-use borrow.Author.Rules.{rules}
 use Rattle.pauli_word.specs.Bytes.{AcceptedWord, letters_in, bytes_of}
 use Rattle.pauli_word.proofs.Words.{decode-length}
 use Rattle.action.specs.Index.{order_of}
-use Rattle.action.specs.Orbit.{reach, first_at}
 use Rattle.elements.specs.HeldGroup.{generators_in}
-use Rattle.elements.proofs.Orbits.{entries, walk_start, walk-accepted, walk_next}
-use Rattle.elements.proofs.LeastSoFar.{least_so_far, lead_start, place-start, lead-accepted, lead-bytes, lead-place, lead-end, place_end}
-use Rattle.decisions.proofs.Traversals.{Passed, passed_start, passed-few, passed-moves, passed-fixes, placed-kept, word_kept, placed-broken, word-broken, fixing-some}
+use Rattle.elements.proofs.Orbits.{walk_start, walk-accepted, walk_next}
+use Rattle.elements.proofs.LeastSoFar.{lead_start, place-start, lead-accepted, lead-bytes, lead-place, lead-end, place_end}
+use Rattle.decisions.proofs.Traversals.{passed_start, passed-few, passed-moves, passed-fixes, placed-kept, word_kept, placed-broken, word-broken, fixing-some}
 use Rattle.decisions.proofs.stabilizer.canonicalize_with_stabilizer.Goals as goal
 use Rattle.decisions.proofs.stabilizer.canonicalize_with_stabilizer.Goals.{in-Fixes, in-Moves}
 use Rattle.decisions.proofs.stabilizer.canonicalize_with_stabilizer.Lts as lts
@@ -26,18 +23,18 @@ ctx-After-loop = lts.After-loop tie.the-claims reads.Pre reads.Post goal.the-inv
 -- the word at hand is accepted
 here-accepted :
     (c : ctx-At-loop)
-    → AcceptedWord c.args.sites c.loop-i.here
+    → AcceptedWord c.args.group.now.sites c.loop-i.here
 here-accepted c =
     let l = c.loop-i in
-    let w = letters_in c.args.sites c.args.word.now in
+    let w = letters_in c.args.group.now.sites c.args.word.now in
     walk-accepted c.requires.tables w (decode-length c.requires.accepted_word) l.i l.invariant.1
 
 best-accepted :
     (c : ctx-At-loop)
-    → AcceptedWord c.args.sites c.loop-i.best
+    → AcceptedWord c.args.group.now.sites c.loop-i.best
 best-accepted c =
     let l = c.loop-i in
-    let w = letters_in c.args.sites c.args.word.now in
+    let w = letters_in c.args.group.now.sites c.args.word.now in
     lead-accepted c.requires.tables w (decode-length c.requires.accepted_word) l.i l.invariant.1 l.invariant.2
 
 pub copy-requires : goal.copy-requires
@@ -48,8 +45,8 @@ copy-requires-2 c = c.requires.accepted_word.long
 
 pub loop-i-init : goal.loop-i-init
 loop-i-init c =
-    let gs = generators_in c.args.generators c.args.sites c.args.targets.now c.args.orders.now in
-    let w = letters_in c.args.sites c.args.word.now in
+    let gs = generators_in c.args.group.now.generators c.args.group.now.sites c.args.group.now.targets.now c.args.group.now.orders.now in
+    let w = letters_in c.args.group.now.sites c.args.word.now in
     let ok = c.requires.accepted_word in (
       omega arith,
       c.copy.ensures ∙ walk_start ok gs,
@@ -74,8 +71,8 @@ pub returns-in-Breaks : goal.returns-in-Breaks
 returns-in-Breaks c =
     let l = c.loop-i in
     let ks = c.args.modes.now in
-    let gs = generators_in c.args.generators c.args.sites c.args.targets.now c.args.orders.now in
-    let w = letters_in c.args.sites c.args.word.now in
+    let gs = generators_in c.args.group.now.generators c.args.group.now.sites c.args.group.now.targets.now c.args.group.now.orders.now in
+    let w = letters_in c.args.group.now.sites c.args.word.now in
     let inside : l.i < order_of gs = omega (arith, c.requires.order_value, c.loop-i-test.true) in
     let breaks = sym c.tested.ensures ∙ c.in-Breaks.is in record {
       answer = c.dropped.ensures.0 ∙ placed-broken gs ks w l.i l.invariant.4 inside breaks;
@@ -85,8 +82,8 @@ returns-in-Breaks c =
 pub overflow_add-fixing : goal.overflow_add-fixing
 overflow_add-fixing c =
     let l = c.loop-i in
-    let gs = generators_in c.args.generators c.args.sites c.args.targets.now c.args.orders.now in
-    let w = letters_in c.args.sites c.args.word.now in
+    let gs = generators_in c.args.group.now.generators c.args.group.now.sites c.args.group.now.targets.now c.args.group.now.orders.now in
+    let w = letters_in c.args.group.now.sites c.args.word.now in
     let few = passed-few gs c.args.modes.now w l.i l.invariant.4 in
     omega (arith, c.requires.tables.small, c.requires.order_value, c.loop-i-test.true, few)
 
@@ -113,20 +110,13 @@ advance-requires c = record {
   accepted_word = here-accepted c.before.before.before.before.before.before.before.before.before.before;
 }
 
-pub overflow_add-i : goal.overflow_add-i
-overflow_add-i c =
-    omega (arith, c.requires.tables.small, c.requires.order_value, c.loop-i-test.true)
-
-pub loop-i-smaller : goal.loop-i-smaller
-loop-i-smaller c = omega (arith, c.loop-i-test.true)
-
 pub loop-i-preserved : goal.loop-i-preserved
 loop-i-preserved c =
     let l = c.loop-i in
     let ks = c.args.modes.now in
     let t = c.requires.tables in
-    let gs = generators_in c.args.generators c.args.sites c.args.targets.now c.args.orders.now in
-    let w = letters_in c.args.sites c.args.word.now in
+    let gs = generators_in c.args.group.now.generators c.args.group.now.sites c.args.group.now.targets.now c.args.group.now.orders.now in
+    let w = letters_in c.args.group.now.sites c.args.word.now in
     let long = decode-length c.requires.accepted_word in
     let test = sym c.tested.ensures in
     let came = c.match-tested.branch in (
@@ -140,7 +130,7 @@ loop-i-preserved c =
 -- every index was tested
 all_tested :
     (c : ctx-After-loop)
-    → (c.loop-i.i ≡ order_of (generators_in c.args.generators c.args.sites c.args.targets.now c.args.orders.now))
+    → (c.loop-i.i ≡ order_of (generators_in c.args.group.now.generators c.args.group.now.sites c.args.group.now.targets.now c.args.group.now.orders.now))
 all_tested c =
     omega (arith, c.requires.order_value, c.loop-i-test.false, c.loop-i.invariant.0)
 
@@ -150,16 +140,16 @@ invert-back-requires c = c.requires.tables
 pub nonzero_div-result : goal.nonzero_div-result
 nonzero_div-result c =
     let l = c.loop-i in
-    let gs = generators_in c.args.generators c.args.sites c.args.targets.now c.args.orders.now in
-    let w = letters_in c.args.sites c.args.word.now in
+    let gs = generators_in c.args.group.now.generators c.args.group.now.sites c.args.group.now.targets.now c.args.group.now.orders.now in
+    let w = letters_in c.args.group.now.sites c.args.word.now in
     fixing-some gs c.args.modes.now w l.i l.invariant.4 (all_tested c.before.before) c.requires.tables.valid
 
 pub returns : goal.returns
 returns c =
     let l = c.loop-i in
     let ks = c.args.modes.now in
-    let gs = generators_in c.args.generators c.args.sites c.args.targets.now c.args.orders.now in
-    let w = letters_in c.args.sites c.args.word.now in
+    let gs = generators_in c.args.group.now.generators c.args.group.now.sites c.args.group.now.targets.now c.args.group.now.orders.now in
+    let w = letters_in c.args.group.now.sites c.args.word.now in
     let all = all_tested c.before.before in record {
       answer = placed-kept gs ks w l.i l.invariant.4 all (l.invariant.3 ∙ place_end gs w l.i all) c.invert-back.ensures c.requires.order_value;
       word = l.invariant.2 ∙ ap bytes_of (lead-end gs w l.i all) ∙ word_kept gs ks w l.i l.invariant.4 all;

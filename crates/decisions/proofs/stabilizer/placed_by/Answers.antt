@@ -8,7 +8,6 @@ use Rattle.action.specs.Orbit.{fixing}
 use Rattle.elements.specs.HeldGroup.{generators_in}
 use Rattle.rotation.proofs.XPlane.{one-keeps, one_size}
 use Rattle.decisions.proofs.Placing.{keeps_placed, keeps-word}
-use borrow.Author.Rules.{rules}
 use Rattle.decisions.proofs.stabilizer.placed_by.Goals as goal
 
 pub placed_by_step-requires : goal.placed_by_step-requires
@@ -41,8 +40,8 @@ placed_by_traversal-requires c = record {
 pub returns-in-Free : goal.returns-in-Free
 returns-in-Free c =
     let ks = c.args.modes.now in
-    let gs = generators_in c.args.generators c.args.sites c.args.targets.now c.args.orders.now in
-    let w = letters_in c.args.sites c.args.word.now in
+    let gs = generators_in c.args.group.now.generators c.args.group.now.sites c.args.group.now.targets.now c.args.group.now.orders.now in
+    let w = letters_in c.args.group.now.sites c.args.word.now in
     let long = decode-length c.requires.accepted_word in
     let one : length (fixing gs w) ≡ 1 = rw c.in-Free.is at c.requires.says in
     let keeps = one-keeps c.requires.tables.valid w long one ks in record {
@@ -52,7 +51,7 @@ returns-in-Free c =
 
 pub returns-in-Multiples : goal.returns-in-Multiples
 returns-in-Multiples c =
-    let w = letters_in c.args.sites c.args.word.now in
+    let w = letters_in c.args.group.now.sites c.args.word.now in
     let says = rw c.in-Multiples.is at c.requires.says in record {
       answer = c.placed_by_step.ensures.answer w says c.requires.back_value;
       word = c.placed_by_step.ensures.word w says c.requires.out_value;
@@ -60,7 +59,7 @@ returns-in-Multiples c =
 
 pub returns-in-Leading : goal.returns-in-Leading
 returns-in-Leading c =
-    let w = letters_in c.args.sites c.args.word.now in
+    let w = letters_in c.args.group.now.sites c.args.word.now in
     let long = decode-length c.requires.accepted_word in
     let says = rw c.in-Leading.is at c.requires.says in record {
       answer = c.placed_by_set.ensures.answer w long says c.requires.back_value;

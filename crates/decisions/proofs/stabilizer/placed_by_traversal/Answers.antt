@@ -1,7 +1,6 @@
 -- `stabilizer::placed_by_traversal` meets its contract: what the traversal finds fills the list.
 use mathlib.Core.Path.{sym, ap, ◌∙◌}
 use lib.ListN.{length}
-use borrow.Author.Rules.{rules}
 use Rattle.pauli_word.specs.Bytes.{letters_in}
 use Rattle.elements.specs.HeldGroup.{generators_in}
 use Rattle.decisions.specs.Decisions.{decision}
@@ -20,7 +19,7 @@ traverse-placed-requires c = record {
 pub copy-requires : goal.copy-requires
 copy-requires c =
     let a = c.args in
-    let decided = decision (generators_in a.generators a.sites a.targets.now a.orders.now) a.modes.now (letters_in a.sites a.word.now) in
+    let decided = decision (generators_in a.group.now.generators a.group.now.sites a.group.now.targets.now a.group.now.orders.now) a.modes.now (letters_in a.group.now.sites a.word.now) in
     ap length c.traverse-placed.ensures.word ∙ row_long decided ∙ sym c.requires.out_len
 
 pub returns : goal.returns

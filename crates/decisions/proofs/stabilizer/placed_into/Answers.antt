@@ -1,5 +1,4 @@
 -- `stabilizer::placed_into` meets its contract: what the path says of the word decides.
-use borrow.Author.Rules.{rules}
 use Rattle.decisions.proofs.stabilizer.placed_into.Goals as goal
 
 pub least_into-led-requires : goal.least_into-led-requires

@@ -1,9 +1,6 @@
 -- `stabilizer::tested` meets its contract: comparing the bytes says whether the index fixes the word (`bytes-fixed`, `bytes-moved`).
 use mathlib.Core.Path.{◌≡◌, sym, ◌∙◌}
-use mathlib.Core.Logic.{⊎_elim}
 use mathlib.Core.Bool.{true}
-use native.Mathlib.Omega.{arith}
-use borrow.Author.Rules.{rules}
 use Rattle.action.specs.Orbit.{fixes}
 use Rattle.elements.specs.HeldGroup.{generators_in}
 use Rattle.decisions.proofs.Traversals.{test-moves, test-fixes, test-breaks, bytes-fixed, bytes-moved}
@@ -19,28 +16,28 @@ ctx-After-enum_told = lts.Past-After-enum_told tie.the-claims reads.Pre reads.Po
 pub returns-in_default : goal.returns-in_default
 returns-in_default c =
     let a = c.args in
-    test-moves (generators_in a.generators a.sites a.targets.now a.orders.now) a.modes.now
-    (letters_in a.sites a.word.now) a.index
+    test-moves (generators_in a.group.now.generators a.group.now.sites a.group.now.targets.now a.group.now.orders.now) a.modes.now
+    (letters_in a.group.now.sites a.word.now) a.index
     (bytes-moved c.requires.tables c.requires.accepted_word a.index c.requires.here_value c.compare_bytes.ensures.order
-    (λ e. absurd (c.in_default.not-Same e)))
+    (λ e. absurd (c.in_default.not-Equal e)))
 
 -- the bytes compare as the same
 fixed :
     (c : ctx-After-enum_told)
     → let a = c.args in
-    let gs = generators_in a.generators a.sites a.targets.now a.orders.now in
-    (fixes gs (letters_in a.sites a.word.now) a.index ≡ true)
+    let gs = generators_in a.group.now.generators a.group.now.sites a.group.now.targets.now a.group.now.orders.now in
+    (fixes gs (letters_in a.group.now.sites a.word.now) a.index ≡ true)
 fixed c =
-    bytes-fixed c.requires.tables c.requires.accepted_word c.args.index c.requires.here_value c.compare_bytes.ensures.order c.in-Same.is
+    bytes-fixed c.requires.tables c.requires.accepted_word c.args.index c.requires.here_value c.compare_bytes.ensures.order c.in-Equal.is
 
 pub returns-then-trivial : goal.returns-then-trivial
 returns-then-trivial c =
     let a = c.args in
-    test-fixes (generators_in a.generators a.sites a.targets.now a.orders.now) a.modes.now
-    (letters_in a.sites a.word.now) a.index (fixed c.before.before.before) (sym c.trivial.ensures ∙ c.if-trivial.true)
+    test-fixes (generators_in a.group.now.generators a.group.now.sites a.group.now.targets.now a.group.now.orders.now) a.modes.now
+    (letters_in a.group.now.sites a.word.now) a.index (fixed c.before.before.before) (sym c.trivial.ensures ∙ c.if-trivial.true)
 
 pub returns-else-trivial : goal.returns-else-trivial
 returns-else-trivial c =
     let a = c.args in
-    test-breaks (generators_in a.generators a.sites a.targets.now a.orders.now) a.modes.now
-    (letters_in a.sites a.word.now) a.index (fixed c.before.before.before) (sym c.trivial.ensures ∙ c.if-trivial.false)
+    test-breaks (generators_in a.group.now.generators a.group.now.sites a.group.now.targets.now a.group.now.orders.now) a.modes.now
+    (letters_in a.group.now.sites a.word.now) a.index (fixed c.before.before.before) (sym c.trivial.ensures ∙ c.if-trivial.false)

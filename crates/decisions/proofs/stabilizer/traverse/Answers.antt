@@ -1,14 +1,12 @@
 -- `stabilizer::traverse` meets its contract: it finds the masks and hands them to the traversal.
-use mathlib.Core.Path.{refl}
 use native.Mathlib.Omega.{arith}
-use borrow.Author.Rules.{rules}
 use Rattle.decisions.proofs.stabilizer.traverse.Goals as goal
 
-pub find_masks-by_masks-requires : goal.find_masks-by_masks-requires
-find_masks-by_masks-requires c = record {
+pub find_masks-shapes-requires : goal.find_masks-shapes-requires
+find_masks-shapes-requires c = record {
   tables = c.requires.tables;
   sites_bound = c.words_in_use-words.ensures;
-  strides_len = (refl, refl, omega (arith, c.words_in_use-words.ensures.1));
+  masks_len = omega (arith, c.words_in_use-words.ensures.1);
 }
 
 pub canonicalize_with_stabilizer-requires : goal.canonicalize_with_stabilizer-requires
@@ -19,5 +17,5 @@ canonicalize_with_stabilizer-requires c = record {
   modes_len = c.requires.modes_len;
   accepted_word = c.requires.accepted_word;
   sites_bound = c.words_in_use-words.ensures;
-  ready = c.find_masks-by_masks.ensures;
+  ready = c.find_masks-shapes.ensures;
 }

@@ -1,10 +1,6 @@
-use Prim.Native.Nat.{◌+◌, ◌-◌, ◌*◌, ◌≤◌}
-use mathlib.Core.Path.{◌≡◌}
+use Prim.Native.Nat.{◌+◌}
 use native.Mathlib.Nat.{one-mul, mod-lt}
 use native.Mathlib.Omega.{arith}
-use lib.ListN.{drop}
-use Rattle.action.specs.Index.{order_of, add}
-use Rattle.elements.specs.HeldGroup.{generators_in}
 use Rattle.elements.proofs.TableRows.{order-positive-at}
 use Rattle.elements.proofs.Indices.{factor-small, order-next, sum-next, sum-small, sum-end}
 use Rattle.elements.proofs.index.add.Goals as goal
@@ -30,7 +26,7 @@ pub overflow_add-out : goal.overflow_add-out
 overflow_add-out c =
     let l = c.loop-g in
     let o = order-positive-at c.requires l.g c.loop-g-test.true in
-    omega (arith, mod-lt l.a o, mod-lt l.b o, c.shared_slice_known-1.given l.g)
+    omega (arith, mod-lt l.a o, mod-lt l.b o)
 
 pub nonzero_rem-out-in-loop-g-2 : goal.nonzero_rem-out-in-loop-g-2
 nonzero_rem-out-in-loop-g-2 c = order-positive-at c.requires c.loop-g.g c.loop-g-test.true
@@ -58,12 +54,6 @@ nonzero_div-a c = order-positive-at c.requires c.loop-g.g c.loop-g-test.true
 
 pub nonzero_div-b : goal.nonzero_div-b
 nonzero_div-b c = order-positive-at c.requires c.loop-g.g c.loop-g-test.true
-
-pub overflow_add-g : goal.overflow_add-g
-overflow_add-g c = omega arith
-
-pub loop-g-smaller : goal.loop-g-smaller
-loop-g-smaller c = omega arith
 
 pub loop-g-preserved : goal.loop-g-preserved
 loop-g-preserved c =

@@ -1,9 +1,5 @@
-use Prim.Native.Nat.{◌-◌, ◌≤◌}
-use mathlib.Core.Path.{◌≡◌, refl, sym, ◌∙◌}
+use mathlib.Core.Path.{refl, sym, ◌∙◌}
 use native.Mathlib.Omega.{arith}
-use lib.ListN.{drop}
-use Rattle.action.specs.Index.{digits_below}
-use Rattle.elements.specs.HeldGroup.{generators_in}
 use Rattle.elements.proofs.Counters.{below_next, below_fails, below_end}
 use Rattle.elements.proofs.index.are_digits.Goals as goal
 
@@ -26,12 +22,6 @@ pub returns-then-orders-g : goal.returns-then-orders-g
 returns-then-orders-g c =
     let l = c.loop-g in
     sym (below_fails c.requires.tables c.args.counter.now l.g c.requires.counter_len c.loop-g-test.true c.if-orders-g.true) ∙ l.invariant.1
-
-pub overflow_add-g : goal.overflow_add-g
-overflow_add-g c = omega arith
-
-pub loop-g-smaller : goal.loop-g-smaller
-loop-g-smaller c = omega (arith, c.loop-g-test.true)
 
 pub loop-g-preserved : goal.loop-g-preserved
 loop-g-preserved c =

@@ -1,11 +1,7 @@
-use Prim.Native.Nat.{◌-◌, ◌≤◌}
-use mathlib.Core.Path.{◌≡◌, refl, sym, ◌∙◌}
-use mathlib.Core.List.{◌++◌}
+use mathlib.Core.Path.{refl, sym, ◌∙◌}
 use native.Mathlib.Nat.{mod-lt}
 use native.Mathlib.Omega.{arith}
-use lib.ListN.{length, take, drop, length-set}
-use Rattle.action.specs.Index.{digits}
-use Rattle.elements.specs.HeldGroup.{generators_in}
+use lib.ListN.{length-set}
 use Rattle.elements.proofs.TableRows.{order-positive-at}
 use Rattle.elements.proofs.Indices.{counter_next, counter-end}
 use Rattle.elements.proofs.index.fill_counter.Goals as goal
@@ -28,7 +24,7 @@ pub overflow_cast-counter : goal.overflow_cast-counter
 overflow_cast-counter c =
     let l = c.loop-g in
     let o = order-positive-at c.requires.tables l.g c.loop-g-test.true in
-    omega (arith, mod-lt l.rest o, c.shared_slice_known-1.given l.g)
+    omega (arith, mod-lt l.rest o)
 
 pub offset_bounds-counter-g : goal.offset_bounds-counter-g
 offset_bounds-counter-g c = omega (arith, c.requires.tables.few)
@@ -38,12 +34,6 @@ bounds-counter-g c = omega (arith, c.requires.generators_in_bounds)
 
 pub nonzero_div-rest : goal.nonzero_div-rest
 nonzero_div-rest c = order-positive-at c.requires.tables c.loop-g.g c.loop-g-test.true
-
-pub overflow_add-g : goal.overflow_add-g
-overflow_add-g c = omega arith
-
-pub loop-g-smaller : goal.loop-g-smaller
-loop-g-smaller c = omega arith
 
 pub loop-g-preserved : goal.loop-g-preserved
 loop-g-preserved c =

@@ -1,39 +1,27 @@
-use Prim.Native.Nat.{◌+◌, ◌-◌, ◌*◌, ◌≤◌}
+use Prim.Native.Nat.{ℕ, ◌+◌, ◌-◌, ◌*◌, ◌≤◌, ◌<◌}
 use mathlib.Core.Path.{◌≡◌, sym, ◌∙◌}
+use mathlib.Core.List.{List}
 use native.Mathlib.Omega.{arith}
 use lib.ListN.{get_or, drop}
 use Rattle.permutation.specs.Limits.{max_order}
-use Rattle.action.specs.Index.{index as index_of}
-use Rattle.elements.specs.HeldGroup.{generators_in}
+use Rattle.permutation.specs.declared.Lent.{Lent}
+use Rattle.action.specs.Index.{Digits, index as index_of}
+use Rattle.elements.specs.HeldGroup.{generators_held, HoldsGroup}
 use Rattle.elements.proofs.Counters.{digits_long, index-start, index-next, index-small}
 use Rattle.elements.proofs.index.index_of.Goals as goal
-use Rattle.elements.proofs.index.index_of.Lts as lts
-use Rattle.elements.proofs.index.index_of.Tie as tie
-use Rattle.elements.proofs.index.index_of.Reads as reads
 
-abbrev ctx-After-shared_slice_known2 : Type 0
-ctx-After-shared_slice_known2 = lts.After-shared_slice_known2 reads.Pre reads.Post goal.the-invariant-loop-g goal.the-decreases-loop-g tie.handed_clauses
+-- the index of the digits from the generator before g on, and its bound
+module _ (group : Lent) (tables : HoldsGroup group) (counter : List ℕ) (ok : Digits (generators_held group) counter) (g : ℕ) where
+  next :
+      (index : ℕ) → 0 < g → g ≤ group.generators → index ≡ index_of (drop g (generators_held group)) (drop g counter)
+      → get_or counter (g - 1) 0 + get_or group.orders.now (g - 1) 0 * index ≡ index_of (drop (g - 1) (generators_held group)) (drop (g - 1) counter)
+  next index more within e = rw e (index-next tables counter g (digits_long tables counter ok) more within)
 
--- one digit more
-next :
-    (c : ctx-After-shared_slice_known2)
-    → get_or c.args.counter.now (c.loop-g.g - 1) 0 + get_or c.args.orders.now (c.loop-g.g - 1) 0 * c.loop-g.index
-    ≡ index_of (drop (c.loop-g.g - 1) (generators_in c.args.generators c.args.sites c.args.targets.now c.args.orders.now)) (drop (c.loop-g.g - 1) c.args.counter.now)
-next c =
-    let l = c.loop-g in
-    let cs = c.args.counter.now in
-    rw l.invariant.1 (index-next c.requires.tables cs l.g (digits_long c.requires.tables cs c.requires.digits) c.loop-g-test.true l.invariant.0)
-
-small :
-    (c : ctx-After-shared_slice_known2)
-    → index_of (drop (c.loop-g.g - 1) (generators_in c.args.generators c.args.sites c.args.targets.now c.args.orders.now)) (drop (c.loop-g.g - 1) c.args.counter.now) ≤ max_order
-small c = index-small c.requires.tables c.args.counter.now (c.loop-g.g - 1) c.requires.digits
+  small : index_of (drop (g - 1) (generators_held group)) (drop (g - 1) counter) ≤ max_order
+  small = index-small tables counter (g - 1) ok
 
 pub loop-g-init : goal.loop-g-init
-loop-g-init c = (omega arith, sym (index-start c.requires.tables c.args.counter.now c.args.generators (omega arith)))
-
-pub overflow_sub-g : goal.overflow_sub-g
-overflow_sub-g c = omega (arith, c.loop-g-test.true)
+loop-g-init c = (omega arith, sym (index-start c.requires.tables c.args.counter.now c.args.group.now.generators (omega arith)))
 
 pub offset_bounds-counter-g : goal.offset_bounds-counter-g
 offset_bounds-counter-g c = omega (arith, c.requires.tables.few)
@@ -48,16 +36,33 @@ pub bounds-orders-g : goal.bounds-orders-g
 bounds-orders-g c = omega (arith, c.requires.tables.few, c.requires.tables.declared_orders, c.loop-g-test.true)
 
 pub overflow_mul-index : goal.overflow_mul-index
-overflow_mul-index c = omega (arith, next c.before, small c.before)
+overflow_mul-index c =
+    let l = c.loop-g in
+    let r = c.requires in
+    let a = c.args in
+    omega (
+      arith,
+      next a.group.now r.tables a.counter.now r.digits l.g l.index c.loop-g-test.true l.invariant.0 l.invariant.1,
+      small a.group.now r.tables a.counter.now r.digits l.g,
+    )
 
 pub overflow_add-index : goal.overflow_add-index
-overflow_add-index c = omega (arith, next c.before, small c.before)
-
-pub loop-g-smaller : goal.loop-g-smaller
-loop-g-smaller c = omega (arith, c.loop-g-test.true)
+overflow_add-index c =
+    let l = c.loop-g in
+    let r = c.requires in
+    let a = c.args in
+    omega (
+      arith,
+      next a.group.now r.tables a.counter.now r.digits l.g l.index c.loop-g-test.true l.invariant.0 l.invariant.1,
+      small a.group.now r.tables a.counter.now r.digits l.g,
+    )
 
 pub loop-g-preserved : goal.loop-g-preserved
-loop-g-preserved c = (omega arith, next c.before)
+loop-g-preserved c =
+    let l = c.loop-g in (
+      omega arith,
+      next c.args.group.now c.requires.tables c.args.counter.now c.requires.digits l.g l.index c.loop-g-test.true l.invariant.0 l.invariant.1,
+    )
 
 pub returns : goal.returns
 returns c =

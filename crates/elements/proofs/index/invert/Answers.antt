@@ -1,10 +1,6 @@
-use Prim.Native.Nat.{◌+◌, ◌-◌, ◌*◌, ◌≤◌}
-use mathlib.Core.Path.{◌≡◌}
+use Prim.Native.Nat.{◌+◌}
 use native.Mathlib.Nat.{one-mul, mod-lt}
 use native.Mathlib.Omega.{arith}
-use lib.ListN.{drop}
-use Rattle.action.specs.Index.{order_of, inverse}
-use Rattle.elements.specs.HeldGroup.{generators_in}
 use Rattle.elements.proofs.TableRows.{order-positive-at}
 use Rattle.elements.proofs.Indices.{factor-small, order-next, inverse-next, inverse-small, inverse-end}
 use Rattle.elements.proofs.index.invert.Goals as goal
@@ -51,12 +47,6 @@ overflow_mul-place c =
 
 pub nonzero_div-rest : goal.nonzero_div-rest
 nonzero_div-rest c = order-positive-at c.requires c.loop-g.g c.loop-g-test.true
-
-pub overflow_add-g : goal.overflow_add-g
-overflow_add-g c = omega arith
-
-pub loop-g-smaller : goal.loop-g-smaller
-loop-g-smaller c = omega arith
 
 pub loop-g-preserved : goal.loop-g-preserved
 loop-g-preserved c =

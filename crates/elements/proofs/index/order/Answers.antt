@@ -1,10 +1,6 @@
-use Prim.Native.Nat.{◌+◌, ◌-◌, ◌*◌, ◌≤◌}
-use mathlib.Core.Path.{◌≡◌}
+use Prim.Native.Nat.{◌+◌}
 use native.Mathlib.Nat.{one-mul}
 use native.Mathlib.Omega.{arith}
-use lib.ListN.{drop}
-use Rattle.action.specs.Index.{order_of}
-use Rattle.elements.specs.HeldGroup.{generators_in}
 use Rattle.elements.proofs.Indices.{factor-small, order-next, order-end}
 use Rattle.elements.proofs.index.order.Goals as goal
 
@@ -24,12 +20,6 @@ overflow_mul-product c =
     let t = c.requires in
     let l = c.loop-g in
     omega (arith, factor-small t _ (l.g + 1) (order-next t l.product l.g c.loop-g-test.true l.invariant.1))
-
-pub overflow_add-g : goal.overflow_add-g
-overflow_add-g c = omega arith
-
-pub loop-g-smaller : goal.loop-g-smaller
-loop-g-smaller c = omega arith
 
 pub loop-g-preserved : goal.loop-g-preserved
 loop-g-preserved c =

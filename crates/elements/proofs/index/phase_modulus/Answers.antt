@@ -1,17 +1,12 @@
-use Prim.Native.Nat.{◌-◌, ◌≤◌}
-use mathlib.Core.Path.{◌≡◌, sym, ◌∙◌}
+use Prim.Native.Nat.{◌-◌}
+use mathlib.Core.Path.{sym, ◌∙◌}
 use native.Mathlib.Omega.{arith}
-use lib.ListN.{drop}
-use Rattle.elements.specs.HeldGroup.{generators_in}
-use Rattle.elements.proofs.Indices.{multiple, multiple_all, multiple-small, multiple-next, multiple-end, gcd-positive}
+use Rattle.elements.proofs.Indices.{multiple_all, multiple-small, multiple-next, multiple-end, gcd-positive}
 use Rattle.elements.proofs.index.phase_modulus.Goals as goal
 
 pub loop-g-init : goal.loop-g-init
 loop-g-init c =
-    (omega arith, sym (multiple-end c.requires c.args.generators (omega arith)))
-
-pub overflow_sub-g : goal.overflow_sub-g
-overflow_sub-g c = omega arith
+    (omega arith, sym (multiple-end c.requires c.args.group.now.generators (omega arith)))
 
 pub offset_bounds-orders-g : goal.offset_bounds-orders-g
 offset_bounds-orders-g c = omega (arith, c.requires.few)
@@ -32,9 +27,6 @@ overflow_mul-least c =
     let l = c.loop-g in
     let next = multiple-next t l.g l.least c.gcd.result (omega arith) (omega arith) l.invariant.1 c.gcd.ensures in
     omega (arith, next, multiple-small t (l.g - 1))
-
-pub loop-g-smaller : goal.loop-g-smaller
-loop-g-smaller c = omega arith
 
 pub loop-g-preserved : goal.loop-g-preserved
 loop-g-preserved c =

@@ -1,9 +1,8 @@
-use Prim.Native.Nat.{◌-◌, ◌≤◌}
-use mathlib.Core.Path.{◌≡◌, refl, ◌∙◌}
+use mathlib.Core.Path.{refl, ◌∙◌}
 use native.Mathlib.Nat.{not-suc-le-zero}
 use native.Mathlib.Omega.{arith}
-use lib.ListN.{length, length-set}
-use Rattle.elements.proofs.Codes.{Moved, moved-next, moved_all}
+use lib.ListN.{length-set}
+use Rattle.elements.proofs.Codes.{moved-next, moved_all}
 use Rattle.elements.proofs.letters.move_letters.Goals as goal
 
 pub loop-q-init : goal.loop-q-init
@@ -22,12 +21,6 @@ pub bounds-to-target : goal.bounds-to-target
 bounds-to-target c =
     let l = c.loop-q in
     omega (arith, c.requires.permutes.inside l.q c.loop-q-test.true)
-
-pub overflow_add-q : goal.overflow_add-q
-overflow_add-q c = omega arith
-
-pub loop-q-smaller : goal.loop-q-smaller
-loop-q-smaller c = omega arith
 
 pub loop-q-preserved : goal.loop-q-preserved
 loop-q-preserved c =

@@ -2,7 +2,6 @@
 use Prim.Native.Nat.{ℕ}
 use mathlib.Core.Path.{sym, ap, subst, ◌∙◌}
 use lib.ListN.{length}
-use borrow.Author.Rules.{rules}
 use Rattle.pauli_word.specs.Bytes.{letters_in}
 use Rattle.pauli_word.proofs.Words.{decode-length}
 use Rattle.action.specs.Permutation.{Permutes}

@@ -1,9 +1,9 @@
-use Prim.Native.Nat.{◌-◌, ◌*◌, ◌≤◌, ◌<◌}
-use mathlib.Core.Path.{◌≡◌, refl, ◌∙◌}
+use Prim.Native.Nat.{◌-◌}
+use mathlib.Core.Path.{refl, ◌∙◌}
 use native.Mathlib.Omega.{arith}
-use lib.ListN.{length, take, drop, length-take}
+use lib.ListN.{drop, length-take}
 use Rattle.pauli_word.specs.Bytes.{number, plane_of}
-use Rattle.elements.proofs.Codes.{planes_of, planes-next, planes_end}
+use Rattle.elements.proofs.Codes.{planes-next, planes_end}
 use Rattle.elements.proofs.letters.pack.Goals as goal
 
 pub loop-start-init : goal.loop-start-init

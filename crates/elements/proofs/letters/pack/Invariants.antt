@@ -1,10 +1,8 @@
 -- `letters::pack` meets its contract. The loop's invariant: the planes of the codes before start, which are whole bytes but for the last.
 use Prim.Native.Nat.{◌-◌, ◌*◌, ◌≤◌, ◌<◌}
-use mathlib.Core.Path.{◌≡◌, refl, ◌∙◌}
-use native.Mathlib.Omega.{arith}
-use lib.ListN.{length, take, drop, length-take}
-use Rattle.pauli_word.specs.Bytes.{number, plane_of}
-use Rattle.elements.proofs.Codes.{planes_of, planes-next, planes_end}
+use mathlib.Core.Path.{◌≡◌}
+use lib.ListN.{length, take}
+use Rattle.elements.proofs.Codes.{planes_of}
 use Rattle.elements.proofs.letters.pack.Given as goal
 
 abbrev pub invariant-loop-start : goal.invariant-loop-start

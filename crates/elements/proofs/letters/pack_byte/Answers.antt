@@ -1,8 +1,8 @@
-use Prim.Native.Nat.{ℕ, ◌≤◌, ◌/◌}
+use Prim.Native.Nat.{ℕ, ◌/◌}
 use mathlib.Core.Path.{◌≡◌, ap, ◌∙◌}
 use mathlib.Core.List.{map}
 use native.Mathlib.Omega.{arith}
-use lib.ListN.{length, drop}
+use lib.ListN.{drop}
 use lib.Seq.{drop-length}
 use Rattle.pauli_word.specs.Bytes.{number}
 use Rattle.elements.proofs.Codes.{x_of, z_of, digit-before, digit-fits}
@@ -13,9 +13,6 @@ unfolding number
 loop-k-init c =
     let a = c.args.letters.now in
     (omega arith, rw (drop-length a), rw (drop-length a))
-
-pub overflow_sub-k : goal.overflow_sub-k
-overflow_sub-k c = omega arith
 
 pub bounds-letters-k : goal.bounds-letters-k
 bounds-letters-k c = omega arith
@@ -43,9 +40,6 @@ overflow_add-z c =
     let a = c.args.letters.now in
     let l = c.loop-k in
     omega (arith, digit-fits (λ b. b / 2) a l.k l.z l.invariant.2 c.loop-k-test.true c.requires)
-
-pub loop-k-smaller : goal.loop-k-smaller
-loop-k-smaller c = omega arith
 
 pub loop-k-preserved : goal.loop-k-preserved
 loop-k-preserved c =

@@ -1,14 +1,10 @@
-use Prim.Native.Nat.{◌-◌, ◌≤◌}
-use mathlib.Core.Path.{◌≡◌, refl, sym, ap, ◌∙◌}
+use mathlib.Core.Path.{refl, sym, ap, ◌∙◌}
 use native.Mathlib.Nat.{mod-lt}
 use native.Mathlib.Omega.{arith}
-use lib.ListN.{length, drop}
+use lib.ListN.{length}
 use Rattle.pauli_word.specs.Limits.{plane_length}
-use Rattle.pauli_word.specs.Bytes.{AcceptedWord, letters_in, bytes_of}
+use Rattle.pauli_word.specs.Bytes.{bytes_of}
 use Rattle.pauli_word.proofs.Words.{encode-length}
-use Rattle.action.specs.Index.{digits}
-use Rattle.action.specs.Orbit.{stepped}
-use Rattle.elements.specs.HeldGroup.{generators_in}
 use Rattle.elements.proofs.TableRows.{order-positive-at}
 use Rattle.elements.proofs.Steps.{part_permutes, moved-accepted, moved-last, moved_on, moved_end}
 use Rattle.elements.proofs.walk.advance.Goals as goal
@@ -67,7 +63,7 @@ pub overflow_add-rest : goal.overflow_add-rest
 overflow_add-rest c =
     let l = c.loop-g in
     let o = order-positive-at c.requires.tables l.g c.loop-g-test.true in
-    omega (arith, mod-lt l.rest o, c.shared_slice_known-in-loop-g-1.given l.g)
+    omega (arith, mod-lt l.rest o)
 
 pub returns-then-rest-o : goal.returns-then-rest-o
 returns-then-rest-o c =
@@ -78,12 +74,6 @@ returns-then-rest-o c =
 
 pub nonzero_div-rest : goal.nonzero_div-rest
 nonzero_div-rest c = order-positive-at c.requires.tables c.loop-g.g c.loop-g-test.true
-
-pub overflow_add-g : goal.overflow_add-g
-overflow_add-g c = omega (arith, c.requires.tables.few, c.loop-g-test.true)
-
-pub loop-g-smaller : goal.loop-g-smaller
-loop-g-smaller c = omega (arith, c.loop-g-test.true)
 
 pub loop-g-preserved : goal.loop-g-preserved
 loop-g-preserved c =

@@ -1,5 +1,4 @@
 -- `walk::apply_generator` meets its contract: it lends room for the codes of as many sites.
-use borrow.Author.Rules.{rules}
 use Rattle.elements.proofs.Codes.{room}
 use Rattle.elements.proofs.walk.apply_generator.Goals as goal
 

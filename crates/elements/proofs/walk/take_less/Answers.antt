@@ -1,9 +1,6 @@
 -- `walk::take_less` meets its contract: comparing the bytes says which word is less (`less-taken`, `less-left`).
 use mathlib.Core.Path.{sym, ap, ◌∙◌}
-use mathlib.Core.Logic.{⊎_elim}
 use mathlib.Core.Bool.{Bool, cond}
-use native.Mathlib.Omega.{arith}
-use borrow.Author.Rules.{rules}
 use Rattle.elements.proofs.LeastSoFar.{less-taken, less-left}
 use Rattle.elements.proofs.walk.take_less.Goals as goal
 

@@ -1,9 +1,8 @@
-use Prim.Native.Nat.{◌-◌, ◌≤◌}
-use mathlib.Core.Path.{◌≡◌, refl, ◌∙◌}
+use mathlib.Core.Path.{refl, ◌∙◌}
 use native.Mathlib.Omega.{arith}
 use lib.ListN.{length, length-set}
 use Rattle.action.specs.Lattice.{shifted}
-use Rattle.generators.proofs.Stores.{Holds, holds-next}
+use Rattle.generators.proofs.Stores.{holds-next}
 use Rattle.generators.proofs.Shifts.{shifted-small, shift-stored}
 use Rattle.pauli_word.specs.Limits.{max_sites}
 use Rattle.generators.proofs.lattice.fill_shift.Goals as goal
@@ -28,12 +27,6 @@ offset_bounds-row-q c = omega arith
 
 pub bounds-row-q : goal.bounds-row-q
 bounds-row-q c = omega arith
-
-pub overflow_add-q : goal.overflow_add-q
-overflow_add-q c = omega arith
-
-pub loop-q-smaller : goal.loop-q-smaller
-loop-q-smaller c = let l = c.loop-q in omega (arith, length-set l.row l.q c.shifted.result)
 
 pub loop-q-preserved : goal.loop-q-preserved
 loop-q-preserved c =

@@ -1,8 +1,5 @@
-use Prim.Native.Nat.{◌-◌}
-use mathlib.Core.Path.{sym, ap, ◌∙◌}
 use native.Mathlib.Omega.{arith}
-use lib.ListN.{length}
-use Rattle.generators.proofs.Axes.{Stored, side-small, stored_none, targets-long, orders-long, part_room, axis-fits, stored_next, stored-all}
+use Rattle.generators.proofs.Axes.{side-small, stored_none, orders-long, part_room, axis-fits, stored_next, stored-all}
 use Rattle.generators.proofs.lattice.fill_shifts.Goals as goal
 
 pub loop-g-init : goal.loop-g-init
@@ -56,12 +53,6 @@ pub overflow_mul-stride : goal.overflow_mul-stride
 overflow_mul-stride c =
     let p = c.requires.sides_len_bound in
     omega (arith, (axis-fits c.loop-g.invariant p.0 p.1 c.loop-g-test.true p.2 p.3).2)
-
-pub overflow_add-g : goal.overflow_add-g
-overflow_add-g c = omega arith
-
-pub loop-g-smaller : goal.loop-g-smaller
-loop-g-smaller c = omega arith
 
 pub loop-g-preserved : goal.loop-g-preserved
 loop-g-preserved c =

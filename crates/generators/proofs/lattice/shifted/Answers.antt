@@ -2,7 +2,6 @@
 use mathlib.Core.Path.{refl}
 use native.Mathlib.Omega.{arith}
 use native.Mathlib.Nat.{mul-pos}
-use borrow.Author.Rules.{rules}
 use Rattle.action.specs.Lattice.{shifted}
 use Rattle.generators.proofs.Shifts.{place-small, low_small, axis-small, high_small}
 use Rattle.pauli_word.specs.Limits.{max_sites}

@@ -2,7 +2,6 @@
 use mathlib.Core.Path.{sym}
 use native.Mathlib.Nat.{zero-mul, mul-zero}
 use native.Mathlib.Omega.{arith}
-use borrow.Author.Rules.{rules}
 use Rattle.generators.proofs.Shifts.{sides-zero, two-large, two-fit, two-positive, three-large, three-fit, sides-fit}
 use Rattle.generators.proofs.lattice.sites_of.Goals as goal
 

@@ -1,8 +1,6 @@
-use Prim.Native.Nat.{◌+◌, ◌-◌, ◌≤◌}
-use mathlib.Core.Path.{◌≡◌, refl, sym, ap, ◌∙◌}
+use mathlib.Core.Path.{refl, sym, ap, ◌∙◌}
 use native.Mathlib.Omega.{arith}
-use lib.ListN.{length, drop}
-use Rattle.permutation.specs.Generators.{ends_inside, perms_of}
+use lib.ListN.{length}
 use Rattle.generators.proofs.Written.{ends-short, ends_next, perms-next, scan_ends, scan_counts, ends-none, perms-none}
 use Rattle.generators.proofs.list.count_generators.Goals as goal
 

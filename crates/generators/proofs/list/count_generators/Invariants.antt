@@ -1,11 +1,9 @@
 -- `list::count_generators` meets its contract. The loop's invariant: the list ends inside a generator exactly if what is left of it at `at` does,
 -- and it writes `count` more generators than that.
 use Prim.Native.Nat.{◌+◌, ◌-◌, ◌≤◌}
-use mathlib.Core.Path.{◌≡◌, refl, sym, ap, ◌∙◌}
-use native.Mathlib.Omega.{arith}
+use mathlib.Core.Path.{◌≡◌}
 use lib.ListN.{length, drop}
 use Rattle.permutation.specs.Generators.{ends_inside, perms_of}
-use Rattle.generators.proofs.Written.{ends-short, ends_next, perms-next, scan_ends, scan_counts, ends-none, perms-none}
 use Rattle.generators.proofs.list.count_generators.Given as goal
 
 abbrev pub invariant-loop-at : goal.invariant-loop-at

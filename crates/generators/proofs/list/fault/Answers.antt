@@ -1,6 +1,5 @@
 -- `list::fault` meets its contract: a generator of the right length has the fault that its targets have.
 use mathlib.Core.Path.{sym, ap, ◌∙◌}
-use borrow.Author.Rules.{rules}
 use Rattle.outcome.specs.Outcome.{alone}
 use Rattle.generators.proofs.Faults.{other_length, perm-targets}
 use Rattle.generators.proofs.list.fault.Goals as goal

@@ -1,9 +1,8 @@
-use Prim.Native.Nat.{ℕ, ◌-◌, ◌≤◌}
-use mathlib.Core.Path.{◌≡◌, refl, sym, ◌∙◌}
+use mathlib.Core.Path.{refl, sym, ◌∙◌}
 use native.Mathlib.Omega.{arith}
-use lib.ListN.{length, get_or, length-set}
+use lib.ListN.{get_or, length-set}
 use lib.Seq.{ext_get_or}
-use Rattle.generators.proofs.Stores.{Holds, holds-next}
+use Rattle.generators.proofs.Stores.{holds-next}
 use Rattle.generators.proofs.list.store.Goals as goal
 
 pub loop-i-init : goal.loop-i-init
@@ -23,12 +22,6 @@ offset_bounds-dst-i c = omega arith
 
 pub bounds-dst-i : goal.bounds-dst-i
 bounds-dst-i c = omega arith
-
-pub overflow_add-i : goal.overflow_add-i
-overflow_add-i c = omega arith
-
-pub loop-i-smaller : goal.loop-i-smaller
-loop-i-smaller c = omega arith
 
 pub loop-i-preserved : goal.loop-i-preserved
 loop-i-preserved c =

@@ -1,10 +1,5 @@
-use Prim.Native.Nat.{◌-◌, ◌≤◌}
-use mathlib.Core.Path.{◌≡◌, refl, sym, ◌∙◌}
-use mathlib.Core.Bool.{◌&&◌}
+use mathlib.Core.Path.{refl, sym, ◌∙◌}
 use native.Mathlib.Omega.{arith}
-use lib.Dec.{eqb}
-use lib.ListN.{length, drop}
-use Rattle.generators.specs.Tables.{zeros}
 use Rattle.generators.proofs.Zeros.{zeros-none, zeros-more}
 use Rattle.generators.proofs.tables.no_orders.Goals as goal
 
@@ -16,12 +11,6 @@ offset_bounds-orders-i c = omega arith
 
 pub bounds-orders-i : goal.bounds-orders-i
 bounds-orders-i c = omega arith
-
-pub overflow_add-i : goal.overflow_add-i
-overflow_add-i c = omega arith
-
-pub loop-i-smaller : goal.loop-i-smaller
-loop-i-smaller c = omega arith
 
 pub loop-i-preserved : goal.loop-i-preserved
 loop-i-preserved c =

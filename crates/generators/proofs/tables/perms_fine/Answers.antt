@@ -1,27 +1,11 @@
-use Prim.Native.Nat.{◌-◌, ◌≤◌}
-use mathlib.Core.Path.{◌≡◌, refl, sym, ap, ◌∙◌}
+use mathlib.Core.Path.{refl, sym, ap, ◌∙◌}
 use mathlib.Core.Bool.{not}
 use native.Mathlib.Omega.{arith}
 use borrow.Author.Tests.{not-true, not-false}
 use Rattle.permutation.specs.Generators.{perm_check, row_at}
 use Rattle.permutation.proofs.Faults.{unbroken}
-use Rattle.generators.proofs.Rows.{perms_from, row_check, perms-none, perms-broken, perms-next}
+use Rattle.generators.proofs.Rows.{row_check, perms-none, perms-broken, perms-next}
 use Rattle.generators.proofs.tables.perms_fine.Goals as goal
-use Rattle.generators.proofs.tables.perms_fine.Lts as lts
-use Rattle.generators.proofs.tables.perms_fine.Tie as tie
-use Rattle.generators.proofs.tables.perms_fine.Reads as reads
-
-abbrev ctx-After-permutes : Type 0
-ctx-After-permutes = lts.After-permutes tie.the-claims reads.Pre reads.Post goal.the-invariant-loop-g goal.the-decreases-loop-g
-
--- whether generator g alone breaks no rule is what permutes found
-found :
-    (c : ctx-After-permutes)
-    → let a = c.args in
-    (c.permutes.result ≡ unbroken (perm_check a.sites c.loop-g.g (row_at a.sites a.targets.now c.loop-g.g)))
-found c =
-    let a = c.args in
-    c.permutes.ensures c.loop-g.g ∙ sym (ap unbroken (row_check a.sites a.targets.now c.loop-g.g (omega arith)))
 
 pub loop-g-init : goal.loop-g-init
 loop-g-init c = (omega arith, refl)
@@ -49,27 +33,25 @@ permutes-requires c = c.requires.2
 
 pub returns-then-not-permutes : goal.returns-then-not-permutes
 returns-then-not-permutes c =
-    let check = perm_check c.args.sites c.loop-g.g (row_at c.args.sites c.args.targets.now c.loop-g.g) in
-    let fault = not-false check.broken (sym (found c.before.before) ∙ not-true c.permutes.result c.if-not-permutes.true-raw) in
+    let check = perm_check c.args.group.now.sites c.loop-g.g (row_at c.args.group.now.sites c.args.group.now.targets.now c.loop-g.g) in
+    let fault = not-false check.broken (sym
+    (c.permutes.ensures c.loop-g.g ∙ sym (ap unbroken (row_check c.args.group.now.sites c.args.group.now.targets.now c.loop-g.g (omega arith))))
+    ∙ not-true c.permutes.result c.if-not-permutes.true-raw) in
     sym
     (ap unbroken
     (c.loop-g.invariant.1
-    ∙ perms-broken c.args.generators c.args.sites c.args.targets.now c.loop-g.g c.loop-g-test.true fault)
+    ∙ perms-broken c.args.group.now.generators c.args.group.now.sites c.args.group.now.targets.now c.loop-g.g c.loop-g-test.true fault)
     ∙ ap not fault)
-
-pub overflow_add-g : goal.overflow_add-g
-overflow_add-g c = omega arith
-
-pub loop-g-smaller : goal.loop-g-smaller
-loop-g-smaller c = omega arith
 
 pub loop-g-preserved : goal.loop-g-preserved
 loop-g-preserved c =
-    let check = perm_check c.args.sites c.loop-g.g (row_at c.args.sites c.args.targets.now c.loop-g.g) in
-    let fine = not-true check.broken (sym (found c.before.before) ∙ not-false c.permutes.result c.if-not-permutes.false-raw) in
+    let check = perm_check c.args.group.now.sites c.loop-g.g (row_at c.args.group.now.sites c.args.group.now.targets.now c.loop-g.g) in
+    let fine = not-true check.broken (sym
+    (c.permutes.ensures c.loop-g.g ∙ sym (ap unbroken (row_check c.args.group.now.sites c.args.group.now.targets.now c.loop-g.g (omega arith))))
+    ∙ not-false c.permutes.result c.if-not-permutes.false-raw) in
     let more = c.loop-g-test.true in
-    (omega arith, c.loop-g.invariant.1 ∙ perms-next c.args.generators c.args.sites c.args.targets.now c.loop-g.g more fine)
+    (omega arith, c.loop-g.invariant.1 ∙ perms-next c.args.group.now.generators c.args.group.now.sites c.args.group.now.targets.now c.loop-g.g more fine)
 
 pub returns : goal.returns
 returns c =
-    sym (ap unbroken (c.loop-g.invariant.1 ∙ perms-none c.args.generators c.args.sites c.args.targets.now c.loop-g.g c.loop-g-test.false))
+    sym (ap unbroken (c.loop-g.invariant.1 ∙ perms-none c.args.group.now.generators c.args.group.now.sites c.args.group.now.targets.now c.loop-g.g c.loop-g-test.false))

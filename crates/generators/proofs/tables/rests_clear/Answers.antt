@@ -1,13 +1,11 @@
-use Prim.Native.Nat.{◌-◌, ◌≤◌}
-use mathlib.Core.Path.{◌≡◌, sym, ◌∙◌}
+use mathlib.Core.Path.{sym, ◌∙◌}
 use native.Mathlib.Omega.{arith}
 use borrow.Author.Tests.{not-true, not-false}
-use Rattle.generators.specs.Tables.{rests_clear}
-use Rattle.generators.proofs.Rows.{rests_from, rests-all, rests-none, rests-other, rests-next}
+use Rattle.generators.proofs.Rows.{rests-all, rests-none, rests-other, rests-next}
 use Rattle.generators.proofs.tables.rests_clear.Goals as goal
 
 pub loop-g-init : goal.loop-g-init
-loop-g-init c = let a = c.args in (omega arith, rests-all a.generators a.sites a.targets.now)
+loop-g-init c = let a = c.args in (omega arith, rests-all a.group.now.generators a.group.now.sites a.group.now.targets.now)
 
 pub overflow_mul-start : goal.overflow_mul-start
 overflow_mul-start c = omega arith
@@ -38,25 +36,19 @@ returns-then-not-all_zero c =
     let a = c.args in
     sym
     (c.loop-g.invariant.1
-    ∙ rests-other a.generators a.sites a.targets.now c.loop-g.g c.loop-g-test.true
+    ∙ rests-other a.group.now.generators a.group.now.sites a.group.now.targets.now c.loop-g.g c.loop-g-test.true
     (sym c.all_zero.ensures ∙ not-true c.all_zero.result c.if-not-all_zero.true-raw))
-
-pub overflow_add-g : goal.overflow_add-g
-overflow_add-g c = omega arith
-
-pub loop-g-smaller : goal.loop-g-smaller
-loop-g-smaller c = omega arith
 
 pub loop-g-preserved : goal.loop-g-preserved
 loop-g-preserved c =
     let a = c.args in (
       omega arith,
       c.loop-g.invariant.1
-          ∙ rests-next a.generators a.sites a.targets.now c.loop-g.g c.loop-g-test.true
+          ∙ rests-next a.group.now.generators a.group.now.sites a.group.now.targets.now c.loop-g.g c.loop-g-test.true
           (sym c.all_zero.ensures ∙ not-false c.all_zero.result c.if-not-all_zero.false-raw),
     )
 
 pub returns : goal.returns
 returns c =
     let a = c.args in
-    sym (c.loop-g.invariant.1 ∙ rests-none a.generators a.sites a.targets.now c.loop-g.g c.loop-g-test.false)
+    sym (c.loop-g.invariant.1 ∙ rests-none a.group.now.generators a.group.now.sites a.group.now.targets.now c.loop-g.g c.loop-g-test.false)

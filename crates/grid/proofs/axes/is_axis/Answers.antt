@@ -1,5 +1,4 @@
 -- `grid::axes::is_axis` meets its contract: the identity is an axis of one place, and any other rotation is one where its blocks are a round.
-use borrow.Author.Rules.{rules}
 use borrow.Author.Tests.{eqb-true}
 use native.Mathlib.Omega.{arith}
 use Rattle.grid.proofs.Grids.{axis_one, axis_round}

@@ -1,14 +1,12 @@
-use Prim.Native.Nat.{ℕ, ◌-◌, ◌*◌, ◌≤◌, ◌<◌}
-use mathlib.Core.Path.{◌≡◌, refl, sym, ap, ◌∙◌}
+use Prim.Native.Nat.{ℕ, ◌*◌}
+use mathlib.Core.Path.{refl, sym, ap, ◌∙◌}
 use mathlib.Core.Bool.{false≢true}
 use native.Mathlib.Omega.{arith}
-use borrow.Author.Rules.{rules}
 use borrow.Author.Tests.{not-false}
 use borrow.Author.Count.{below_more}
-use lib.ListN.{get_or, take}
+use lib.ListN.{get_or}
 use Rattle.action.specs.Arithmetic.{product}
 use Rattle.elements.proofs.TableRows.{order-positive-at}
-use Rattle.grid.specs.Grid.{Axis}
 use Rattle.grid.proofs.Grids.{axes-all, place-positive, place-times, place-next}
 use Rattle.grid.proofs.axes.is_grid.Goals as goal
 
@@ -41,7 +39,7 @@ loop-g-preserved c =
     let more = c.loop-g-test.true in
     let axis = c.is_axis.ensures (not-false c.is_axis.result c.if-not-is_axis.false-raw) in (
       omega (arith, more),
-      ap (λ (p : ℕ). p * get_or c.args.orders.now l.g 0) l.invariant.1 ∙ sym (place-next c.requires.tables l.g more),
+      ap (λ (p : ℕ). p * get_or c.args.group.now.orders.now l.g 0) l.invariant.1 ∙ sym (place-next c.requires.tables l.g more),
       below_more _ l.g l.invariant.2 (rw l.invariant.1 at axis),
     )
 

@@ -1,5 +1,4 @@
 -- `block::alike` meets its contract.
-use borrow.Author.Rules.{rules}
 use Rattle.packed.specs.Packed.{bit_of}
 use Rattle.grid.proofs.Blocks.{alike_none, alike_every}
 use Rattle.grid.proofs.block.alike.Goals as goal

@@ -1,9 +1,6 @@
-use Prim.Native.Nat.{◌-◌}
 use mathlib.Core.Bool.{false≢true}
 use native.Mathlib.Omega.{arith}
-use borrow.Author.Rules.{rules}
-use lib.ListN.{length, get_or}
-use Rattle.packed.proofs.Packing.{Between}
+use lib.ListN.{get_or}
 use Rattle.packed.proofs.Masks.{below_bits}
 use Rattle.grid.proofs.Blocks.{read_next, same_word, every_set}
 use Rattle.grid.proofs.block.every_bit.Goals as goal
@@ -19,12 +16,6 @@ bounds-at-i c = omega arith
 
 pub returns-then-at-i : goal.returns-then-at-i
 returns-then-at-i c = λ e. absurd (false≢true e)
-
-pub overflow_add-i : goal.overflow_add-i
-overflow_add-i c = omega arith
-
-pub loop-i-smaller : goal.loop-i-smaller
-loop-i-smaller c = omega arith
 
 pub loop-i-preserved : goal.loop-i-preserved
 loop-i-preserved c =

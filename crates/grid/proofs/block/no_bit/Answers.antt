@@ -1,9 +1,6 @@
-use Prim.Native.Nat.{◌-◌}
 use mathlib.Core.Path.{refl}
 use mathlib.Core.Bool.{false, false≢true}
 use native.Mathlib.Omega.{arith}
-use lib.ListN.{length}
-use Rattle.packed.proofs.Packing.{Between}
 use Rattle.grid.proofs.Blocks.{read_next, read_all, zero_word}
 use Rattle.grid.proofs.block.no_bit.Goals as goal
 
@@ -18,12 +15,6 @@ bounds-at-i c = omega arith
 
 pub returns-then-at-i-ne0 : goal.returns-then-at-i-ne0
 returns-then-at-i-ne0 c = λ e. absurd (false≢true e)
-
-pub overflow_add-i : goal.overflow_add-i
-overflow_add-i c = omega arith
-
-pub loop-i-smaller : goal.loop-i-smaller
-loop-i-smaller c = omega arith
 
 pub loop-i-preserved : goal.loop-i-preserved
 loop-i-preserved c =

@@ -1,11 +1,9 @@
-use Prim.Native.Nat.{◌-◌, ◌≤◌}
-use mathlib.Core.Path.{◌≡◌, refl, ◌∙◌}
+use mathlib.Core.Path.{refl, ◌∙◌}
 use native.Mathlib.Omega.{arith}
-use borrow.Author.Rules.{rules}
-use lib.ListN.{length, length-set}
+use lib.ListN.{length-set}
 use lib.Bits.{bit_and}
 use Rattle.packed.specs.Packed.{bit_of}
-use Rattle.packed.proofs.Packing.{Between, between_next}
+use Rattle.packed.proofs.Packing.{between_next}
 use Rattle.grid.proofs.Blocks.{block_bits, block_word, block-bits, block-clear}
 use Rattle.grid.proofs.block.take_block.Goals as goal
 
@@ -27,14 +25,6 @@ offset_bounds-at-i c = omega arith
 pub bounds-at-i : goal.bounds-at-i
 bounds-at-i c = omega arith
 
-pub overflow_add-i : goal.overflow_add-i
-overflow_add-i c = omega arith
-
-pub loop-i-smaller : goal.loop-i-smaller
-loop-i-smaller c =
-    let l = c.loop-i in
-    omega (arith, length-set l.at l.i (bit_and c.window.result c.ones_word.result))
-
 pub loop-i-preserved : goal.loop-i-preserved
 loop-i-preserved c =
     let a = c.args in
@@ -52,6 +42,6 @@ returns c =
     let a = c.args in
     let l = c.loop-i in
     let room = rw (← l.invariant.1) at c.requires.1 in record {
-      bits = block-bits (bit_of a.plane.now) a.base a.order l.at l.i room c.loop-i-test.false l.invariant.2;
-      clear = block-clear (bit_of a.plane.now) a.base a.order l.at l.i room c.loop-i-test.false l.invariant.2;
+      bits = block-bits (bit_of a.plane.now) a.base a.order l.at l.i room (omega (arith, c.loop-i.auto.at)) l.invariant.2;
+      clear = block-clear (bit_of a.plane.now) a.base a.order l.at l.i room (omega (arith, c.loop-i.auto.at)) l.invariant.2;
     }

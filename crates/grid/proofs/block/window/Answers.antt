@@ -2,7 +2,6 @@
 use Prim.Native.Nat.{◌/◌}
 use Rattle.packed.specs.Packed.{word_bits}
 use Rattle.packed.proofs.Shifts.{window_whole}
-use borrow.Author.Rules.{rules}
 use Rattle.grid.proofs.block.window.Goals as goal
 
 pub returns : goal.returns

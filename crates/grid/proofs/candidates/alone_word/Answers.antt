@@ -1,5 +1,4 @@
 -- `candidates::alone_word` meets its contract.
-use borrow.Author.Rules.{rules}
 use Rattle.grid.proofs.Sets.{alone_here, alone-other}
 use Rattle.grid.proofs.candidates.alone_word.Goals as goal
 

@@ -1,10 +1,10 @@
-use Prim.Native.Nat.{ℕ, ◌-◌, ◌≤◌}
+use Prim.Native.Nat.{ℕ}
 use mathlib.Core.Path.{ap, sym, ◌∙◌}
 use native.Mathlib.Omega.{arith}
 use mathlib.Core.Bool.{false, false≢true}
-use lib.ListN.{length, get_or}
+use lib.ListN.{get_or}
 use Rattle.packed.specs.Packed.{bit_at}
-use Rattle.packed.proofs.Packing.{Between, bit-zero}
+use Rattle.packed.proofs.Packing.{bit-zero}
 use Rattle.grid.proofs.Sets.{first_bit, first_in, between_more, none_whole}
 use Rattle.grid.proofs.candidates.first_of.Goals as goal
 
@@ -40,12 +40,6 @@ returns-then-x-ne0 c =
       inside = omega (arith, (first_bit (get_or left l.i 0) c.if-x-ne0.true fits).0);
       first = λ k e. first_in left l.i c.if-x-ne0.true fits;
     }
-
-pub overflow_add-i : goal.overflow_add-i
-overflow_add-i c = omega arith
-
-pub loop-i-smaller : goal.loop-i-smaller
-loop-i-smaller c = omega arith
 
 pub loop-i-preserved : goal.loop-i-preserved
 loop-i-preserved c =

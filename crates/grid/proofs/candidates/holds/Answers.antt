@@ -1,7 +1,6 @@
 -- `candidates::holds` meets its contract.
 use Prim.Native.Nat.{ℕ, ◌%◌}
 use mathlib.Core.Path.{ap}
-use borrow.Author.Rules.{rules}
 use Rattle.packed.specs.Packed.{word_bits, bit_at, bit_of}
 use Rattle.grid.proofs.candidates.holds.Goals as goal
 

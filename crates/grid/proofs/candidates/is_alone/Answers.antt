@@ -1,11 +1,9 @@
-use Prim.Native.Nat.{ℕ, ◌-◌, ◌≤◌}
+use Prim.Native.Nat.{ℕ}
 use mathlib.Core.Path.{ap, ◌∙◌}
 use native.Mathlib.Omega.{arith}
 use mathlib.Core.Bool.{false≢true}
 use lib.Dec.{eqb}
-use lib.ListN.{length}
 use Rattle.packed.specs.Packed.{bit_at}
-use Rattle.packed.proofs.Packing.{Between}
 use Rattle.grid.proofs.Sets.{between_more, alone-whole}
 use Rattle.grid.proofs.candidates.is_alone.Goals as goal
 
@@ -20,12 +18,6 @@ bounds-left-i c = omega arith
 
 pub returns-then-left-i : goal.returns-then-left-i
 returns-then-left-i c = λ e. absurd (false≢true e)
-
-pub overflow_add-i : goal.overflow_add-i
-overflow_add-i c = omega arith
-
-pub loop-i-smaller : goal.loop-i-smaller
-loop-i-smaller c = omega arith
 
 pub loop-i-preserved : goal.loop-i-preserved
 loop-i-preserved c =

@@ -1,11 +1,10 @@
-use Prim.Native.Nat.{◌-◌, ◌≤◌}
 use native.Mathlib.Omega.{arith}
 use borrow.Author.Tests.{eqb-true, not-false}
 use lib.Dec.{eqb}
-use lib.ListN.{length, get_or}
+use lib.ListN.{get_or}
 use lib.Bits.{bit_and}
 use Rattle.packed.specs.Packed.{bit_of}
-use Rattle.grid.proofs.Sets.{in_both, Gathered, both_word, part_past, gathered_start, gathered_next, gathered_none}
+use Rattle.grid.proofs.Sets.{in_both, both_word, part_past, gathered_start, gathered_next, gathered_none}
 use Rattle.grid.proofs.candidates.some_with.Goals as goal
 
 pub loop-i-init : goal.loop-i-init
@@ -22,12 +21,6 @@ offset_bounds-at-i c = omega arith
 
 pub bounds-at-i : goal.bounds-at-i
 bounds-at-i c = omega arith
-
-pub overflow_add-i : goal.overflow_add-i
-overflow_add-i c = omega arith
-
-pub loop-i-smaller : goal.loop-i-smaller
-loop-i-smaller c = omega arith
 
 pub loop-i-preserved : goal.loop-i-preserved
 loop-i-preserved c =

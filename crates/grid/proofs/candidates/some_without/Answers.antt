@@ -1,13 +1,12 @@
-use Prim.Native.Nat.{◌-◌, ◌≤◌, ◌<◌, ◌^◌}
 use mathlib.Core.Path.{refl}
 use native.Mathlib.Omega.{arith}
 use borrow.Author.Tests.{eqb-true, eqb-false, not-true, not-false}
 use mathlib.Core.Bool.{not}
 use lib.Dec.{eqb}
-use lib.ListN.{length, get_or}
+use lib.ListN.{get_or}
 use lib.Bits.{bit_and, bit_xor, and_lt, or_lt, xor_lt}
 use Rattle.packed.specs.Packed.{word_bits, bit_of}
-use Rattle.grid.proofs.Sets.{in_first, Gathered, first_word, part_past, gathered_start, gathered_next, gathered_none, gathered_some}
+use Rattle.grid.proofs.Sets.{in_first, first_word, part_past, gathered_start, gathered_next, gathered_none, gathered_some}
 use Rattle.grid.proofs.candidates.some_without.Goals as goal
 
 pub loop-i-init : goal.loop-i-init
@@ -24,12 +23,6 @@ offset_bounds-at-i c = omega arith
 
 pub bounds-at-i : goal.bounds-at-i
 bounds-at-i c = omega arith
-
-pub overflow_add-i : goal.overflow_add-i
-overflow_add-i c = omega arith
-
-pub loop-i-smaller : goal.loop-i-smaller
-loop-i-smaller c = omega arith
 
 pub loop-i-preserved : goal.loop-i-preserved
 loop-i-preserved c =

@@ -1,6 +1,5 @@
 -- `candidates::strike` meets its contract: where none has a bit here, or all have, all stay, and else those that have none.
 use mathlib.Core.Path.{◌∙◌}
-use borrow.Author.Rules.{rules}
 use borrow.Author.Tests.{not-true, not-false}
 use Rattle.grid.proofs.Refining.{left_struck, left_none, left-all}
 use Rattle.grid.proofs.candidates.strike.Goals as goal

@@ -1,5 +1,4 @@
 -- `candidates::strike_round` meets its contract.
-use borrow.Author.Rules.{rules}
 use Rattle.grid.proofs.candidates.strike_round.Goals as goal
 
 pub returns-then-is_alone : goal.returns-then-is_alone

@@ -1,12 +1,12 @@
-use Prim.Native.Nat.{ℕ, ◌-◌, ◌≤◌, ◌*◌}
-use mathlib.Core.Path.{◌≡◌, refl, sym, ◌∙◌}
+use Prim.Native.Nat.{◌*◌}
+use mathlib.Core.Path.{refl, sym, ◌∙◌}
 use native.Mathlib.Omega.{arith}
 use mathlib.Core.Bool.{not}
 use lib.ListN.{length, get_or, length-set}
 use lib.Seq.{get_or-set_other}
 use lib.Bits.{bit_and, bit_xor}
 use Rattle.packed.specs.Packed.{word_bits, bit_of}
-use Rattle.packed.proofs.Packing.{Between, between_next, bit_of_past}
+use Rattle.packed.proofs.Packing.{between_next, bit_of_past}
 use Rattle.cyclic.proofs.BitOrder.{by_order}
 use Rattle.grid.proofs.Sets.{in_first, first_word, part_past}
 use Rattle.grid.proofs.candidates.take_out.Goals as goal
@@ -31,15 +31,6 @@ offset_bounds-left-i-in-loop-i c = omega arith
 
 pub bounds-left-i-in-loop-i : goal.bounds-left-i-in-loop-i
 bounds-left-i-in-loop-i c = omega arith
-
-pub overflow_add-i : goal.overflow_add-i
-overflow_add-i c = omega arith
-
-pub loop-i-smaller : goal.loop-i-smaller
-loop-i-smaller c =
-    let l = c.loop-i in
-    let x = get_or l.left l.i 0 in
-    omega (arith, length-set l.left l.i (bit_xor x (bit_and x (get_or c.args.at.now l.i 0))))
 
 pub loop-i-preserved : goal.loop-i-preserved
 loop-i-preserved c =

@@ -1,5 +1,4 @@
 -- `one::digit_at` meets its contract.
-use borrow.Author.Rules.{rules}
 use Rattle.grid.proofs.one.digit_at.Goals as goal
 
 pub returns-then-g-eq0 : goal.returns-then-g-eq0

@@ -1,6 +1,5 @@
 -- `one::next_digit` meets its contract.
 use native.Mathlib.Omega.{arith}
-use borrow.Author.Rules.{rules}
 use Rattle.grid.proofs.OneWord.{count-rolls, count-stays}
 use Rattle.grid.proofs.one.next_digit.Goals as goal
 

@@ -1,14 +1,10 @@
-use Prim.Native.Nat.{◌-◌, ◌%◌, ◌≤◌, ◌<◌}
-use mathlib.Core.Path.{◌≡◌, refl, sym, ◌∙◌}
+use mathlib.Core.Path.{sym}
 use native.Mathlib.Nat.{zero-mod}
 use native.Mathlib.Omega.{arith}
-use borrow.Author.Rules.{rules}
-use lib.ListN.{length, get_or}
-use Rattle.elements.specs.HeldGroup.{generators_in}
+use lib.ListN.{get_or}
 use Rattle.elements.proofs.TableRows.{order-positive-at}
 use Rattle.packed.specs.Packed.{bit_at}
-use Rattle.grid.specs.Stages.{AloneIn}
-use Rattle.grid.proofs.Rounds.{Along, along-start, along-alone, along-tired, along-next, along_end}
+use Rattle.grid.proofs.Rounds.{along-start, along-alone, along-tired, along-next, along_end}
 use Rattle.grid.proofs.one.refine_word.Goals as goal
 
 pub bounds-orders-0 : goal.bounds-orders-0
@@ -16,7 +12,7 @@ bounds-orders-0 c = omega (arith, c.requires.tables.declared_orders)
 
 pub loop-h-init : goal.loop-h-init
 loop-h-init c =
-    (omega arith, λ some. sym (zero-mod (get_or c.args.orders.now 0 0)), along-start c.requires.tables.valid c.requires.order_value c.requires.by_index)
+    (omega arith, λ some. sym (zero-mod (get_or c.args.group.now.orders.now 0 0)), along-start c.requires.tables.valid c.requires.order_value c.requires.by_index)
 
 pub round_word-told-requires : goal.round_word-told-requires
 round_word-told-requires c = c.strike_word-next.ensures.some
@@ -46,12 +42,6 @@ step_word-here-requires c =
 
 pub next_digit-low-requires : goal.next_digit-low-requires
 next_digit-low-requires c = omega (arith, c.loop-h.invariant.0, c.loop-h-test.true, c.requires.steps.room)
-
-pub overflow_add-h : goal.overflow_add-h
-overflow_add-h c = omega (arith, c.loop-h-test.true, c.requires.steps.room)
-
-pub loop-h-smaller : goal.loop-h-smaller
-loop-h-smaller c = omega (arith, c.loop-h-test.true)
 
 pub loop-h-preserved : goal.loop-h-preserved
 loop-h-preserved c =

@@ -1,7 +1,6 @@
 -- `one::round_word` meets its contract: a word that has no bit in common with the number before it has one bit, the first.
 use mathlib.Core.Path.{◌≡◌}
 use native.Mathlib.Omega.{arith}
-use borrow.Author.Rules.{rules}
 use Rattle.grid.proofs.Sets.{first_bit}
 use Rattle.grid.proofs.OneWord.{alone-first}
 use Rattle.grid.proofs.one.round_word.Goals as goal

@@ -1,22 +1,21 @@
-use Prim.Native.Nat.{ℕ, ◌+◌, ◌-◌, ◌*◌, ◌%◌, ◌≤◌, ◌<◌}
-use mathlib.Core.Path.{◌≡◌, refl, sym, ap, ◌∙◌}
-use mathlib.Core.Bool.{false}
+use Prim.Native.Nat.{◌<◌}
+use mathlib.Core.Path.{refl}
 use native.Mathlib.Nat.{mod-lt}
 use native.Mathlib.Omega.{arith}
-use lib.ListN.{length, get_or, take, drop}
+use lib.ListN.{get_or}
 use Rattle.permutation.specs.Limits.{max_generators}
-use Rattle.action.specs.Arithmetic.{product}
 use Rattle.elements.specs.HeldGroup.{generators_in}
 use Rattle.elements.proofs.TableRows.{order-positive-at}
 use Rattle.packed.specs.Packed.{bit_at}
-use Rattle.grid.proofs.Stepping.{Carried, step_start, step-next, step-last, step_end}
+use Rattle.grid.proofs.Grids.{order-small}
+use Rattle.grid.proofs.Stepping.{step_start, step-next, step-last, step_end}
 use Rattle.grid.proofs.OneWord.{turn_moved, turn-clear, digit_first}
 use Rattle.grid.proofs.one.step_word.Goals as goal
 
 pub loop-g-init : goal.loop-g-init
 loop-g-init c =
-    let gs = generators_in c.args.generators c.args.sites c.args.targets.now c.args.orders.now in
-    (omega arith, λ e. refl, c.requires.by_index, step_start gs c.args.orders.now c.args.order c.args.h (bit_at c.args.at))
+    let gs = generators_in c.args.group.now.generators c.args.group.now.sites c.args.group.now.targets.now c.args.group.now.orders.now in
+    (omega arith, λ e. refl, c.requires.by_index, step_start gs c.args.group.now.orders.now c.args.order c.args.h (bit_at c.args.at))
 
 pub offset_bounds-masks-g : goal.offset_bounds-masks-g
 offset_bounds-masks-g c =
@@ -60,15 +59,15 @@ bounds-orders-g c =
 
 pub digit_at-requires : goal.digit_at-requires
 digit_at-requires c =
-    let some : 0 < get_or c.args.orders.now c.loop-g.g 0 = order-positive-at c.requires.tables c.loop-g.g c.loop-g-test.true in
+    let some : 0 < get_or c.args.group.now.orders.now c.loop-g.g 0 = order-positive-at c.requires.tables c.loop-g.g c.loop-g-test.true in
     let l = c.loop-g in
-    (some, λ e. digit_first c.args.orders.now c.args.low c.args.h l.digits l.g (c.requires.low_value (omega (arith, c.loop-g-test.true))) (l.invariant.1 e) e)
+    (some, λ e. digit_first c.args.group.now.orders.now c.args.low c.args.h l.digits l.g (c.requires.low_value (omega (arith, c.loop-g-test.true))) (l.invariant.1 e) e)
 
 pub overflow_add-digit_at : goal.overflow_add-digit_at
 overflow_add-digit_at c =
-    let some : 0 < get_or c.args.orders.now c.loop-g.g 0 = order-positive-at c.requires.tables c.loop-g.g c.loop-g-test.true in
+    let some : 0 < get_or c.args.group.now.orders.now c.loop-g.g 0 = order-positive-at c.requires.tables c.loop-g.g c.loop-g-test.true in
     let l = c.loop-g in
-    omega (arith, c.digit_at.ensures, mod-lt l.digits some, c.shared_slice_known-in-loop-g-4-1.given l.g)
+    omega (arith, c.digit_at.ensures, mod-lt l.digits some, order-small c.requires.tables l.g c.loop-g-test.true)
 
 pub returns-then-digit_at-o : goal.returns-then-digit_at-o
 returns-then-digit_at-o c =
@@ -83,16 +82,8 @@ returns-then-digit_at-o c =
 
 pub nonzero_div-digits : goal.nonzero_div-digits
 nonzero_div-digits c =
-    let some : 0 < get_or c.args.orders.now c.loop-g.g 0 = order-positive-at c.requires.tables c.loop-g.g c.loop-g-test.true in
+    let some : 0 < get_or c.args.group.now.orders.now c.loop-g.g 0 = order-positive-at c.requires.tables c.loop-g.g c.loop-g-test.true in
     some
-
-pub overflow_add-g : goal.overflow_add-g
-overflow_add-g c =
-    let few : c.loop-g.g < max_generators = omega (arith, c.requires.tables.few, c.loop-g-test.true) in
-    omega (arith, few)
-
-pub loop-g-smaller : goal.loop-g-smaller
-loop-g-smaller c = omega (arith, c.loop-g-test.true)
 
 pub loop-g-preserved : goal.loop-g-preserved
 loop-g-preserved c =

@@ -1,5 +1,4 @@
 -- `one::turn` meets its contract.
-use borrow.Author.Rules.{rules}
 use Rattle.packed.proofs.Masks.{turned_picked}
 use Rattle.grid.proofs.one.turn.Goals as goal
 

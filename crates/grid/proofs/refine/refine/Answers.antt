@@ -1,8 +1,7 @@
 -- `refine::refine` meets its contract: all candidates are left at first.
 use Prim.Native.Nat.{◌+◌, ◌<◌}
-use mathlib.Core.Path.{◌≡◌, sym, ap, ◌∙◌}
+use mathlib.Core.Path.{sym, ap, ◌∙◌}
 use native.Mathlib.Omega.{arith}
-use borrow.Author.Rules.{rules}
 use mathlib.Core.Bool.{Bool, not, ◌&&◌}
 use lib.Dec.{ltb}
 use borrow.Author.Tests.{le-ltb}

@@ -1,9 +1,8 @@
 -- `refine::refine_at` meets its contract: a block whose bits are all alike changes nothing, and any other is copied and refined by.
-use Prim.Native.Nat.{ℕ, ◌+◌, ◌<◌}
-use mathlib.Core.Path.{◌≡◌, sym, ◌∙◌}
+use Prim.Native.Nat.{ℕ, ◌+◌}
+use mathlib.Core.Path.{sym, ◌∙◌}
 use mathlib.Core.Bool.{Bool}
 use native.Mathlib.Omega.{arith}
-use borrow.Author.Rules.{rules}
 use Rattle.packed.specs.Packed.{bit_of}
 use Rattle.grid.proofs.Rounds.{block_alike, shows_copied}
 use Rattle.grid.proofs.refine.refine_at.Goals as goal

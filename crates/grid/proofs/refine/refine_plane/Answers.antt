@@ -1,17 +1,14 @@
-use Prim.Native.Nat.{◌-◌, ◌<◌}
-use mathlib.Core.Path.{◌≡◌, refl, sym, ◌∙◌}
+use mathlib.Core.Path.{refl, sym, ◌∙◌}
 use native.Mathlib.Omega.{arith}
-use borrow.Author.Rules.{rules}
-use lib.ListN.{length}
 use Rattle.elements.specs.HeldGroup.{generators_in}
 use Rattle.packed.specs.Packed.{bit_of}
-use Rattle.grid.proofs.Rounds.{Passed, passed_start, passed-alone, passed-tired, passed-next, passed_end, block_within, order_some}
+use Rattle.grid.proofs.Rounds.{passed_start, passed-alone, passed-tired, passed-next, passed_end, block_within, order_some}
 use Rattle.grid.proofs.refine.refine_plane.Goals as goal
 
 pub loop-base-init : goal.loop-base-init
 loop-base-init c =
     let a = c.args in
-    (refl, passed_start (generators_in a.generators a.sites a.targets.now a.orders.now) a.sites a.order (bit_of a.plane.now) a.left.now)
+    (refl, passed_start (generators_in a.group.now.generators a.group.now.sites a.group.now.targets.now a.group.now.orders.now) a.group.now.sites a.order (bit_of a.plane.now) a.left.now)
 
 pub refine_at-stage-requires : goal.refine_at-stage-requires
 refine_at-stage-requires c =

@@ -1,12 +1,7 @@
-use Prim.Native.Nat.{◌-◌, ◌<◌}
-use mathlib.Core.Path.{◌≡◌, refl, sym, subst, ◌∙◌}
+use mathlib.Core.Path.{refl, sym, ◌∙◌}
 use native.Mathlib.Omega.{arith}
-use borrow.Author.Rules.{rules}
-use lib.ListN.{length}
-use Rattle.elements.specs.HeldGroup.{generators_in}
 use Rattle.packed.specs.Packed.{bit_of}
-use Rattle.grid.specs.Stages.{AloneIn}
-use Rattle.grid.proofs.Rounds.{Along, along-start, along-alone, along-tired, along-next, along_end}
+use Rattle.grid.proofs.Rounds.{along-start, along-alone, along-tired, along-next, along_end}
 use Rattle.grid.proofs.refine.refine_words.Goals as goal
 
 pub loop-h-init : goal.loop-h-init
@@ -38,12 +33,6 @@ step-requires c =
       steps = rw (← a.0) at c.requires.steps;
       clear_2 = a.2.clear;
     }
-
-pub overflow_add-h : goal.overflow_add-h
-overflow_add-h c = omega (arith, c.loop-h-test.true, c.requires.steps.room, c.requires.steps.few)
-
-pub loop-h-smaller : goal.loop-h-smaller
-loop-h-smaller c = omega (arith, c.loop-h-test.true)
 
 pub loop-h-preserved : goal.loop-h-preserved
 loop-h-preserved c =

@@ -1,9 +1,7 @@
-use Prim.Native.Nat.{ℕ, ◌-◌, ◌≤◌, min}
+use Prim.Native.Nat.{ℕ, min}
 use mathlib.Core.Path.{sym, ap, ◌∙◌}
 use native.Mathlib.Omega.{arith}
-use Rattle.elements.specs.HeldGroup.{generators_in}
-use Rattle.packed.specs.Packed.{bit_of}
-use Rattle.grid.proofs.Settling.{Smallest, smallest_start, smallest-out, smallest-in, smallest_forward, smallest_none}
+use Rattle.grid.proofs.Settling.{smallest_start, smallest-out, smallest-in, smallest_forward, smallest_none}
 use Rattle.grid.proofs.settle.forward_of.Goals as goal
 use Rattle.grid.proofs.settle.forward_of.Goals.{then-holds, else-holds}
 
@@ -16,12 +14,6 @@ returns-then-best-eq0 c =
 
 pub invert-index-requires : goal.invert-index-requires
 invert-index-requires c = c.requires.tables
-
-pub overflow_add-k : goal.overflow_add-k
-overflow_add-k c = omega (arith, c.loop-k-test.true, c.ranges.order)
-
-pub loop-k-smaller : goal.loop-k-smaller
-loop-k-smaller c = omega (arith, c.loop-k-test.true)
 
 pub loop-k-preserved : goal.loop-k-preserved
 loop-k-preserved c =

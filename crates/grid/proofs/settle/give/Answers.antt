@@ -1,5 +1,4 @@
 -- `settle::give` meets its contract: the planes hold the word, and then what the candidate's inverse reaches from it.
-use borrow.Author.Rules.{rules}
 use Rattle.grid.proofs.settle.give.Goals as goal
 
 pub reach-requires : goal.reach-requires

@@ -1,5 +1,4 @@
 -- `settle::is_known` meets its contract, by cases.
-use borrow.Author.Rules.{rules}
 use borrow.Author.Tests.{eq-eqb, ne_eqb}
 use Rattle.grid.proofs.settle.is_known.Goals as goal
 

@@ -1,6 +1,5 @@
 -- `settle::learn` meets its contract, by cases.
 use mathlib.Core.Path.{refl}
-use borrow.Author.Rules.{rules}
 use Rattle.grid.proofs.settle.learn.Goals as goal
 
 pub returns-in-Less : goal.returns-in-Less
@@ -10,9 +9,9 @@ returns-in-Less c =
       shift = rw is refl;
     }
 
-pub returns-in-Same : goal.returns-in-Same
-returns-in-Same c =
-    let is = c.in-Same.is in record {
+pub returns-in-Equal : goal.returns-in-Equal
+returns-in-Equal c =
+    let is = c.in-Equal.is in record {
       lead = rw is refl;
       shift = rw is (rw c.invert-back.ensures at c.add-shift.ensures);
     }

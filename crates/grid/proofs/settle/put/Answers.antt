@@ -1,6 +1,5 @@
 -- `settle::put` meets its contract: k's machine word has k's bit beside what it had.
 use Rattle.grid.proofs.Settling.{put-bit}
-use borrow.Author.Rules.{rules}
 use Rattle.grid.proofs.settle.put.Goals as goal
 
 pub returns : goal.returns

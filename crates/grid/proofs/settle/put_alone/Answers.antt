@@ -1,7 +1,6 @@
 -- `settle::put_alone` meets its contract: nothing is in the set, and then k.
 use mathlib.Core.Path.{◌∙◌}
 use Rattle.grid.proofs.Settling.{none_bit, alone-bit}
-use borrow.Author.Rules.{rules}
 use Rattle.grid.proofs.settle.put_alone.Goals as goal
 
 pub returns : goal.returns

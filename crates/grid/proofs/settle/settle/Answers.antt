@@ -2,7 +2,6 @@
 use mathlib.Core.Path.{sym, ◌∙◌}
 use lib.ListN.{length}
 use Rattle.rotation.proofs.Packs.{fresh-length}
-use borrow.Author.Rules.{rules}
 use Rattle.grid.proofs.settle.settle.Goals as goal
 
 pub settle_in-requires : goal.settle_in-requires

@@ -2,7 +2,6 @@
 use mathlib.Core.Path.{sym, ◌∙◌}
 use native.Mathlib.Omega.{arith}
 use Rattle.grid.proofs.Settling.{none_bit, weighed_start, weighed_leading}
-use borrow.Author.Rules.{rules}
 use Rattle.grid.proofs.settle.settle_in.Goals as goal
 
 pub first_of-k-requires : goal.first_of-k-requires

@@ -1,7 +1,6 @@
 -- `settle::weigh` meets its contract: each answer of the comparison is a case of what is kept, found and told.
 use mathlib.Core.Path.{refl, sym, ap₂, ◌∙◌}
 use Rattle.packed.specs.Packed.{letters_at}
-use borrow.Author.Rules.{rules}
 use Rattle.grid.proofs.settle.weigh.Goals as goal
 
 pub returns-in-Less : goal.returns-in-Less
@@ -15,9 +14,9 @@ returns-in-Less c =
       found = rw least c.put_alone.ensures;
     }
 
-pub returns-in-Same : goal.returns-in-Same
-returns-in-Same c =
-    let least = sym c.order_of.ensures ∙ c.in-Same.is in record {
+pub returns-in-Equal : goal.returns-in-Equal
+returns-in-Equal c =
+    let least = sym c.order_of.ensures ∙ c.in-Equal.is in record {
       planes = c.requires.planes_3;
       letters = rw least refl;
       told = rw least refl;

@@ -1,11 +1,5 @@
-use Prim.Native.Nat.{◌-◌, ◌≤◌}
-use mathlib.Core.Path.{◌≡◌, refl, sym, ◌∙◌}
+use mathlib.Core.Path.{◌≡◌, refl, ◌∙◌}
 use native.Mathlib.Omega.{arith}
-use lib.ListN.{length}
-use Rattle.elements.specs.HeldGroup.{generators_in}
-use Rattle.packed.specs.Packed.{bit_of, letters_at}
-use Rattle.rotation.specs.Rotation.{Planes}
-use Rattle.grid.specs.Weighing.{Weighed, Knows}
 use Rattle.grid.proofs.Settling.{knows_start}
 use Rattle.grid.proofs.settle.weigh_all.Goals as goal
 
@@ -24,12 +18,6 @@ weigh_next-known-requires c =
       weighed_2 = l.invariant.2;
       knows = l.invariant.3;
     }
-
-pub overflow_add-k : goal.overflow_add-k
-overflow_add-k c = omega (arith, c.loop-k-test.true, c.ranges.order)
-
-pub loop-k-smaller : goal.loop-k-smaller
-loop-k-smaller c = omega (arith, c.loop-k-test.true)
 
 pub loop-k-preserved : goal.loop-k-preserved
 loop-k-preserved c =

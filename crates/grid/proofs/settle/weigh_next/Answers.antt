@@ -5,7 +5,6 @@ use Rattle.packed.specs.Packed.{bit_of}
 use Rattle.packed.proofs.Packing.{letters_by-length}
 use Rattle.rotation.proofs.Packs.{own-length}
 use Rattle.grid.proofs.Settling.{weighed-out, weighed-tie, weighed-in, knows-tie, knows-next}
-use borrow.Author.Rules.{rules}
 use borrow.Author.Tests.{not-true, not-false}
 use Rattle.grid.proofs.settle.weigh_next.Goals as goal
 
@@ -21,7 +20,7 @@ returns-then-is_known c =
     let h = c.requires.weighed_2 in
     let known = c.requires.knows in
     let own = sym c.holds.ensures ∙ not-false c.holds.result c.if-not-holds.false-raw in
-    let long = letters_by-length c.args.sites (bit_of c.args.x.now) (bit_of c.args.z.now) in
+    let long = letters_by-length c.args.group.now.sites (bit_of c.args.x.now) (bit_of c.args.z.now) in
     let same = knows-tie c.requires.tables.valid long known h (sym c.is_known.ensures ∙ c.if-is_known.true) in record {
       planes = c.requires.planes_2.1;
       weighed = weighed-tie h own same c.put.ensures;
@@ -53,7 +52,7 @@ returns c =
     let g = c.give.ensures.letters in
     let p = c.requires.planes_2.1 in
     let own = sym c.holds.ensures ∙ not-false c.holds.result c.if-not-holds.false-raw in
-    let long = letters_by-length c.args.sites (bit_of c.args.x.now) (bit_of c.args.z.now) in
+    let long = letters_by-length c.args.group.now.sites (bit_of c.args.x.now) (bit_of c.args.z.now) in
     let next = knows-next c.requires.tables.valid long c.args.k c.requires.knows g c.weigh-told.ensures.told c.weigh-told.ensures.letters c.learn.ensures.lead c.learn.ensures.shift in record {
       planes = rw p.x_long at c.weigh-told.ensures.planes;
       weighed = weighed-in c.requires.weighed_2 own g c.weigh-told.ensures.letters c.weigh-told.ensures.found;

@@ -1,21 +1,21 @@
-use Prim.Native.Nat.{◌+◌, ◌-◌, ◌*◌, ◌≤◌, ◌<◌}
-use mathlib.Core.Path.{◌≡◌, refl, sym, ◌∙◌}
+use Prim.Native.Nat.{◌+◌, ◌*◌, ◌≤◌, ◌<◌}
+use mathlib.Core.Path.{refl, sym, ◌∙◌}
 use native.Mathlib.Nat.{mod-lt}
 use native.Mathlib.Omega.{arith}
-use lib.ListN.{length, get_or, take, drop}
+use lib.ListN.{length, get_or}
 use Rattle.permutation.specs.Limits.{max_generators}
-use Rattle.action.specs.Arithmetic.{product}
 use Rattle.elements.specs.HeldGroup.{generators_in}
 use Rattle.elements.proofs.TableRows.{order-positive-at}
-use Rattle.packed.specs.Packed.{plane_words, bit_of, Clear}
+use Rattle.packed.specs.Packed.{plane_words, bit_of}
 use Rattle.rotation.proofs.Moved.{part-inside, lent-inside, lent_length}
-use Rattle.grid.proofs.Stepping.{Carried, step_start, step-next, step-last, step_end, block-some, block-whole, block-keep}
+use Rattle.grid.proofs.Grids.{order-small}
+use Rattle.grid.proofs.Stepping.{step_start, step-next, step-last, step_end, block-some, block-whole, block-keep}
 use Rattle.grid.proofs.step.step.Goals as goal
 
 pub loop-g-init : goal.loop-g-init
 loop-g-init c =
-    let gs = generators_in c.args.generators c.args.sites c.args.targets.now c.args.orders.now in
-    (omega arith, refl, c.requires.clear_2, step_start gs c.args.orders.now c.args.order c.args.h (bit_of c.args.at.now))
+    let gs = generators_in c.args.group.now.generators c.args.group.now.sites c.args.group.now.targets.now c.args.group.now.orders.now in
+    (omega arith, refl, c.requires.clear_2, step_start gs c.args.group.now.orders.now c.args.order c.args.h (bit_of c.args.at.now))
 
 pub overflow_mul-start : goal.overflow_mul-start
 overflow_mul-start c =
@@ -92,14 +92,14 @@ bounds-orders-g c =
 
 pub nonzero_rem-digits : goal.nonzero_rem-digits
 nonzero_rem-digits c =
-    let some : 0 < get_or c.args.orders.now c.loop-g.g 0 = order-positive-at c.requires.tables c.loop-g.g c.loop-g-test.true in
+    let some : 0 < get_or c.args.group.now.orders.now c.loop-g.g 0 = order-positive-at c.requires.tables c.loop-g.g c.loop-g-test.true in
     some
 
 pub overflow_add-digits : goal.overflow_add-digits
 overflow_add-digits c =
-    let some : 0 < get_or c.args.orders.now c.loop-g.g 0 = order-positive-at c.requires.tables c.loop-g.g c.loop-g-test.true in
+    let some : 0 < get_or c.args.group.now.orders.now c.loop-g.g 0 = order-positive-at c.requires.tables c.loop-g.g c.loop-g-test.true in
     let l = c.loop-g in
-    omega (arith, mod-lt l.digits some, c.shared_slice_known-in-loop-g-3-1.given l.g)
+    omega (arith, mod-lt l.digits some, order-small c.requires.tables l.g c.loop-g-test.true)
 
 pub returns-then-digits-o : goal.returns-then-digits-o
 returns-then-digits-o c =
@@ -111,16 +111,8 @@ returns-then-digits-o c =
 
 pub nonzero_div-digits : goal.nonzero_div-digits
 nonzero_div-digits c =
-    let some : 0 < get_or c.args.orders.now c.loop-g.g 0 = order-positive-at c.requires.tables c.loop-g.g c.loop-g-test.true in
+    let some : 0 < get_or c.args.group.now.orders.now c.loop-g.g 0 = order-positive-at c.requires.tables c.loop-g.g c.loop-g-test.true in
     some
-
-pub overflow_add-g : goal.overflow_add-g
-overflow_add-g c =
-    let few : c.loop-g.g < max_generators = omega (arith, c.requires.tables.few, c.loop-g-test.true) in
-    omega (arith, few)
-
-pub loop-g-smaller : goal.loop-g-smaller
-loop-g-smaller c = omega (arith, c.loop-g-test.true)
 
 pub loop-g-preserved : goal.loop-g-preserved
 loop-g-preserved c =

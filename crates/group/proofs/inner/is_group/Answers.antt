@@ -1,6 +1,5 @@
 -- `inner::is_group` meets its contract: it hands the value's tables to the function that looks through them.
 use Rattle.group.specs.Value.{is_group}
-use borrow.Author.Rules.{rules}
 use Rattle.group.proofs.inner.is_group.Goals as goal
 
 pub returns : goal.returns

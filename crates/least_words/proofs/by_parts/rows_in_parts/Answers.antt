@@ -1,16 +1,13 @@
 -- `by_parts::rows_in_parts` meets its contract: the rows hold their words in full, and the parts make each the least of its orbit.
-use borrow.Author.Rules.{rules}
 use Prim.Native.Nat.{ℕ, ◌*◌, ◌<◌}
 use mathlib.Core.Path.{◌≡◌, sym, ap, ◌∙◌}
 use mathlib.Core.Bool.{false≢true}
-use mathlib.Core.List.{List}
 use native.Mathlib.Omega.{arith}
 use borrow.Author.Tests.{not-false}
 use lib.ListN.{length}
 use Rattle.pauli_word.specs.Limits.{word_length}
 use Rattle.pauli_word.specs.Word.{Word}
 use Rattle.pauli_word.specs.Bytes.{letters_in, bytes_of}
-use Rattle.action.specs.Permutation.{Generator}
 use Rattle.action.specs.Orbit.{least, index_back}
 use Rattle.elements.specs.HeldGroup.{generators_in}
 use Rattle.row_lists.specs.Rows.{row_at, in_full_by}
@@ -44,17 +41,17 @@ least_rows-requires c =
 pub returns : goal.returns
 returns c =
     let a = c.args in
-    let gs = generators_in a.generators a.sites a.targets.now a.orders.now in
+    let gs = generators_in a.group.now.generators a.group.now.sites a.group.now.targets.now a.group.now.orders.now in
     let k = length a.indices.now in
     let (either, long) = c.requires.either_length in
     let same = c.take_in_full.auto.indices in
-    let letters : (i : ℕ) → i < k → letters_in a.sites (row_at c.take_in_full.new.representatives i) ≡ row_letters a.sites (in_full_by a.size k a.words.now) i =
-    λ i h. ap (letters_in a.sites) ((c.take_in_full.ensures i h).0 ∙ sym (full-row a.size either k a.words.now long i h))
+    let letters : (i : ℕ) → i < k → letters_in a.group.now.sites (row_at c.take_in_full.new.representatives i) ≡ row_letters a.group.now.sites (in_full_by a.size k a.words.now) i =
+    λ i h. ap (letters_in a.group.now.sites) ((c.take_in_full.ensures i h).0 ∙ sym (full-row a.size either k a.words.now long i h))
     in record {
       representatives = λ e.
-          words-by-row gs a.sites (in_full_by a.size k a.words.now) k (c.least_rows.auto.representatives ∙ c.take_in_full.auto.representatives ∙ c.requires.representatives_len)
+          words-by-row gs a.group.now.sites (in_full_by a.size k a.words.now) k (c.least_rows.auto.representatives ∙ c.take_in_full.auto.representatives ∙ c.requires.representatives_len)
           (λ i h. (c.least_rows.ensures i (omega (arith, same, h))).0 ∙ ap (λ (w : Word). bytes_of (least gs w)) (letters i h));
       indices = λ e.
-          indices-by-row gs a.sites (in_full_by a.size k a.words.now) k (c.least_rows.auto.indices ∙ same)
+          indices-by-row gs a.group.now.sites (in_full_by a.size k a.words.now) k (c.least_rows.auto.indices ∙ same)
           (λ i h. (c.least_rows.ensures i (omega (arith, same, h))).1 ∙ ap (index_back gs) (letters i h));
     }

@@ -1,13 +1,13 @@
 use borrow.Author.Rules.{rules}
-use Prim.Native.Nat.{ℕ, ◌+◌, ◌-◌, ◌*◌, ◌≤◌, ◌<◌}
-use mathlib.Core.Path.{◌≡◌, refl, sym, ap, ◌∙◌}
+use Prim.Native.Nat.{ℕ, ◌+◌, ◌*◌, ◌≤◌, ◌<◌}
+use mathlib.Core.Path.{◌≡◌, refl, sym, ◌∙◌}
 use mathlib.Core.List.{List}
 use native.Mathlib.Omega.{arith}
 use lib.ListN.{length, length-set}
 use Rattle.pauli_word.specs.Limits.{word_length}
 use Rattle.pauli_word.specs.Bytes.{in_full}
 use Rattle.elements.proofs.Orbits.{part_length}
-use Rattle.row_lists.specs.Rows.{max_rows, row_by}
+use Rattle.row_lists.specs.Rows.{row_by}
 use Rattle.row_lists.proofs.InFull.{row_inside}
 use Rattle.parted.proofs.Walking.{Walked, walked_none, walked_next}
 use Rattle.least_words.proofs.by_parts.take_in_full.Goals as goal
@@ -28,14 +28,14 @@ loop-i-init c =
 pub row_in_full-full-requires : goal.row_in_full-full-requires
 row_in_full-full-requires c = record {
   either_length = c.requires.either_length.0;
-  size_in_bounds = row_inside c.args.size (length c.args.indices.now) c.args.words.now c.requires.either_length.1 c.loop-i.i (row_below c.loop-i.invariant.1 c.loop-i-test.true c.requires.representatives_len);
+  size_in_bounds = row_inside c.args.size (length c.args.indices.now) c.args.words.now c.requires.either_length.1 c.loop-i.i (row_below c.loop-i.invariant.1 (omega (arith, c.loop-i.auto.indices)) c.requires.representatives_len);
 }
 
 pub overflow_mul-at : goal.overflow_mul-at
-overflow_mul-at c = omega (arith, row_below c.loop-i.invariant.1 c.loop-i-test.true c.requires.representatives_len, c.requires.either_length.2)
+overflow_mul-at c = omega (arith, row_below c.loop-i.invariant.1 (omega (arith, c.loop-i.auto.indices)) c.requires.representatives_len, c.requires.either_length.2)
 
 pub overflow_add-end : goal.overflow_add-end
-overflow_add-end c = omega (arith, row_below c.loop-i.invariant.1 c.loop-i-test.true c.requires.representatives_len, c.requires.either_length.2)
+overflow_add-end c = omega (arith, row_below c.loop-i.invariant.1 (omega (arith, c.loop-i.auto.indices)) c.requires.representatives_len, c.requires.either_length.2)
 
 pub slice_bounds-copy-count : goal.slice_bounds-copy-count
 slice_bounds-copy-count c = omega arith
@@ -44,31 +44,25 @@ pub slice_bounds-copy-start : goal.slice_bounds-copy-start
 slice_bounds-copy-start c = omega arith
 
 pub slice_bounds-copy-end-in-loop-i : goal.slice_bounds-copy-end-in-loop-i
-slice_bounds-copy-end-in-loop-i c = omega (arith, room c.loop-i.invariant.1 c.loop-i-test.true c.requires.representatives_len)
+slice_bounds-copy-end-in-loop-i c = omega (arith, room c.loop-i.invariant.1 (omega (arith, c.loop-i.auto.indices)) c.requires.representatives_len)
 
 pub copy-requires : goal.copy-requires
 copy-requires c =
     let long : length c.row_in_full-full.result ≡ word_length = search rules in
-    long ∙ sym (part_length word_length c.loop-i.i c.loop-i.representatives (room c.loop-i.invariant.1 c.loop-i-test.true c.requires.representatives_len))
+    long ∙ sym (part_length word_length c.loop-i.i c.loop-i.representatives (room c.loop-i.invariant.1 (omega (arith, c.loop-i.auto.indices)) c.requires.representatives_len))
 
 pub offset_bounds-indices-i : goal.offset_bounds-indices-i
-offset_bounds-indices-i c = omega (arith, row_below c.loop-i.invariant.1 c.loop-i-test.true c.requires.representatives_len, c.requires.either_length.2)
+offset_bounds-indices-i c = omega (arith, row_below c.loop-i.invariant.1 (omega (arith, c.loop-i.auto.indices)) c.requires.representatives_len, c.requires.either_length.2)
 
 pub bounds-indices-i : goal.bounds-indices-i
-bounds-indices-i c = c.loop-i-test.true
-
-pub overflow_add-i : goal.overflow_add-i
-overflow_add-i c = omega (arith, row_below c.loop-i.invariant.1 c.loop-i-test.true c.requires.representatives_len, c.requires.either_length.2)
-
-pub loop-i-smaller : goal.loop-i-smaller
-loop-i-smaller c = simp length-set (omega (arith, c.loop-i-test.true))
+bounds-indices-i c = omega (arith, c.loop-i.auto.indices)
 
 pub loop-i-preserved : goal.loop-i-preserved
 loop-i-preserved c =
     let l = c.loop-i in (
       simp length-set (omega (arith, c.loop-i-test.true)),
-      walked_next (λ j row x. (row ≡ in_full (row_by c.args.size c.args.words.now j)) × (x ≡ 0)) l.invariant.1 c.loop-i-test.true (room c.loop-i.invariant.1 c.loop-i-test.true c.requires.representatives_len) c.copy.new.dst
-          (c.copy.auto.dst ∙ part_length word_length l.i l.representatives (room c.loop-i.invariant.1 c.loop-i-test.true c.requires.representatives_len)) _
+      walked_next (λ j row x. (row ≡ in_full (row_by c.args.size c.args.words.now j)) × (x ≡ 0)) l.invariant.1 (omega (arith, c.loop-i.auto.indices)) (room c.loop-i.invariant.1 (omega (arith, c.loop-i.auto.indices)) c.requires.representatives_len) c.copy.new.dst
+          (c.copy.auto.dst ∙ part_length word_length l.i l.representatives (room c.loop-i.invariant.1 (omega (arith, c.loop-i.auto.indices)) c.requires.representatives_len)) _
           (c.copy.ensures ∙ c.row_in_full-full.ensures, refl),
     )
 

@@ -1,5 +1,4 @@
 -- `by_parts::word_taken` meets its contract: where it is of no use the answer is no, and else that of the parts.
-use borrow.Author.Rules.{rules}
 use mathlib.Core.Bool.{false≢true}
 use Rattle.least_words.proofs.by_parts.word_taken.Goals as goal
 

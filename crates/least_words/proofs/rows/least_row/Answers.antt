@@ -1,7 +1,6 @@
 -- `rows::least_row` meets its contract: a row in full is taken as it stands, and another in full.
-use borrow.Author.Rules.{rules}
 use Prim.Native.Nat.{ℕ}
-use mathlib.Core.Path.{◌≡◌, sym, ap, subst, ◌∙◌}
+use mathlib.Core.Path.{sym, ap, subst, ◌∙◌}
 use mathlib.Core.List.{List}
 use Rattle.pauli_word.specs.Bytes.{AcceptedWord, letters_in, bytes_of}
 use Rattle.action.specs.Orbit.{least, index_back}
@@ -16,17 +15,17 @@ least_into-led-requires c =
       tables = c.requires.tables;
       taken = c.requires.taken;
       order_value = c.requires.order_value;
-      accepted_word = subst (AcceptedWord a.sites) (sym e) c.requires.accepted_word;
+      accepted_word = subst (AcceptedWord a.group.now.sites) (sym e) c.requires.accepted_word;
       left_len = c.requires.left_len;
     }
 
 pub returns-then-size-eq-WORD_BYTES : goal.returns-then-size-eq-WORD_BYTES
 returns-then-size-eq-WORD_BYTES c =
     let a = c.args in
-    let gs = generators_in a.generators a.sites a.targets.now a.orders.now in
+    let gs = generators_in a.group.now.generators a.group.now.sites a.group.now.targets.now a.group.now.orders.now in
     let e = full_part a.size c.if-size-eq-WORD_BYTES.true a.words.now a.i c.requires.either_length.1 in record {
-      index = c.least_into-led.ensures.index ∙ ap (λ (w : List ℕ). index_back gs (letters_in a.sites w)) e;
-      row = c.least_into-led.ensures.word ∙ ap (λ (w : List ℕ). bytes_of (least gs (letters_in a.sites w))) e;
+      index = c.least_into-led.ensures.index ∙ ap (λ (w : List ℕ). index_back gs (letters_in a.group.now.sites w)) e;
+      row = c.least_into-led.ensures.word ∙ ap (λ (w : List ℕ). bytes_of (least gs (letters_in a.group.now.sites w))) e;
     }
 
 pub least_into-led-requires-2 : goal.least_into-led-requires-2
@@ -34,15 +33,15 @@ least_into-led-requires-2 c = record {
   tables = c.requires.tables;
   taken = c.requires.taken;
   order_value = c.requires.order_value;
-  accepted_word = subst (AcceptedWord c.args.sites) (sym c.row_in_full-full.ensures) c.requires.accepted_word;
+  accepted_word = subst (AcceptedWord c.args.group.now.sites) (sym c.row_in_full-full.ensures) c.requires.accepted_word;
   left_len = c.requires.left_len;
 }
 
 pub returns : goal.returns
 returns c =
     let a = c.args in
-    let gs = generators_in a.generators a.sites a.targets.now a.orders.now in
+    let gs = generators_in a.group.now.generators a.group.now.sites a.group.now.targets.now a.group.now.orders.now in
     let e = c.row_in_full-full.ensures in record {
-      index = c.least_into-led-2.ensures.index ∙ ap (λ (w : List ℕ). index_back gs (letters_in a.sites w)) e;
-      row = c.least_into-led-2.ensures.word ∙ ap (λ (w : List ℕ). bytes_of (least gs (letters_in a.sites w))) e;
+      index = c.least_into-led-2.ensures.index ∙ ap (λ (w : List ℕ). index_back gs (letters_in a.group.now.sites w)) e;
+      row = c.least_into-led-2.ensures.word ∙ ap (λ (w : List ℕ). bytes_of (least gs (letters_in a.group.now.sites w))) e;
     }

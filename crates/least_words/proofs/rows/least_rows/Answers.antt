@@ -1,6 +1,6 @@
 -- `rows::least_rows` meets its contract: the path of the group is found once.
-use borrow.Author.Rules.{rules}
-use mathlib.Core.Path.{refl}
+use mathlib.Core.Path.{ap}
+use lib.ListN.{length}
 use native.Mathlib.Omega.{arith}
 use Rattle.least_words.proofs.rows.least_rows.Goals as goal
 
@@ -8,7 +8,7 @@ pub find_path-path-requires : goal.find_path-path-requires
 find_path-path-requires c = record {
   tables = c.requires.tables;
   order_value = c.order-order.ensures;
-  strides_len = (refl, refl, omega arith);
+  strides_len = (ap length c.new-shapes.ensures.0, ap length c.new-shapes.ensures.1, omega arith);
 }
 
 pub rows_on-requires : goal.rows_on-requires

@@ -1,7 +1,6 @@
 -- `rows::rows_on` meets its contract: the parts have answered, or the path of the group is taken for each row.
-use borrow.Author.Rules.{rules}
 use Prim.Native.Nat.{ℕ, ◌*◌}
-use mathlib.Core.Path.{◌≡◌, sym, ap, subst, ◌∙◌}
+use mathlib.Core.Path.{sym, ap, subst, ◌∙◌}
 use native.Mathlib.Omega.{arith}
 use Rattle.pauli_word.specs.Limits.{word_length}
 use Rattle.elements.specs.HeldGroup.{generators_in}
@@ -28,15 +27,15 @@ least_rows_by-requires c =
       order_value = c.requires.order_value;
       left_len = left;
       either_length = (either, long ∙ ap (λ (k : ℕ). a.size * k) same);
-      accepted_rows = subst (λ (k : ℕ). AcceptedRows a.sites (in_full_by a.size k a.words.now) k) same c.requires.accepted_rows;
+      accepted_rows = subst (λ (k : ℕ). AcceptedRows a.group.now.sites (in_full_by a.size k a.words.now) k) same c.requires.accepted_rows;
       representatives_len = c.rows_taken.auto.representatives ∙ c.requires.representatives_len ∙ ap (λ (k : ℕ). word_length * k) same;
     }
 
 pub returns : goal.returns
 returns c =
     let a = c.args in
-    let gs = generators_in a.generators a.sites a.targets.now a.orders.now in
+    let gs = generators_in a.group.now.generators a.group.now.sites a.group.now.targets.now a.group.now.orders.now in
     let same = c.rows_taken.auto.indices in record {
-      representatives = c.least_rows_by.ensures.representatives ∙ ap (λ (k : ℕ). words_of (answered_rows gs a.sites (in_full_by a.size k a.words.now) k)) same;
-      indices = c.least_rows_by.ensures.indices ∙ ap (λ (k : ℕ). indices_of (answered_rows gs a.sites (in_full_by a.size k a.words.now) k)) same;
+      representatives = c.least_rows_by.ensures.representatives ∙ ap (λ (k : ℕ). words_of (answered_rows gs a.group.now.sites (in_full_by a.size k a.words.now) k)) same;
+      indices = c.least_rows_by.ensures.indices ∙ ap (λ (k : ℕ). indices_of (answered_rows gs a.group.now.sites (in_full_by a.size k a.words.now) k)) same;
     }

@@ -1,6 +1,5 @@
 -- `word::least_on` meets its contract: the parts have answered, or the path of the group is taken.
-use borrow.Author.Rules.{rules}
-use mathlib.Core.Path.{◌≡◌, refl, ◌∙◌}
+use mathlib.Core.Path.{◌∙◌}
 use native.Mathlib.Omega.{arith}
 use Rattle.rotation.proofs.Packs.{fresh-length}
 use Rattle.least_words.proofs.word.least_on.Goals as goal

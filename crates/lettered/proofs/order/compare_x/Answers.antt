@@ -1,10 +1,5 @@
-use Prim.Native.Nat.{◌-◌, ◌≤◌}
-use mathlib.Core.Path.{◌≡◌, refl, sym, ◌∙◌}
-use mathlib.Core.List.{map}
+use mathlib.Core.Path.{refl, sym, ◌∙◌}
 use native.Mathlib.Omega.{arith}
-use lib.ListN.{length, drop}
-use Rattle.pauli_word.specs.Calls.{order_of_bits}
-use Rattle.elements.proofs.Codes.{x_of}
 use Rattle.lettered.proofs.Comparing.{site-less, site-greater, site-same, sites-end}
 use Rattle.lettered.proofs.order.compare_x.Goals as goal
 
@@ -28,12 +23,6 @@ returns-then-y-x c =
     let a = c.args in
     let l = c.loop-q in
     sym (l.invariant.1 ∙ site-greater (λ w. w) a.a.now a.b.now l.q (omega arith) (omega arith) c.if-y-x.true)
-
-pub overflow_add-q : goal.overflow_add-q
-overflow_add-q c = omega arith
-
-pub loop-q-smaller : goal.loop-q-smaller
-loop-q-smaller c = omega arith
 
 pub loop-q-preserved : goal.loop-q-preserved
 loop-q-preserved c =

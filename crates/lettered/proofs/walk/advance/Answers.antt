@@ -1,19 +1,19 @@
-use Prim.Native.Nat.{ℕ, ◌+◌, ◌-◌, ◌*◌, ◌≤◌}
-use mathlib.Core.Path.{◌≡◌, sym, subst, ◌∙◌}
+use Prim.Native.Nat.{ℕ, ◌+◌, ◌-◌, ◌*◌}
+use mathlib.Core.Path.{sym, subst, ◌∙◌}
 use native.Mathlib.Nat.{mod-lt}
 use native.Mathlib.Omega.{arith}
-use lib.ListN.{length, take, drop}
+use lib.ListN.{take, drop}
 use Rattle.pauli_word.specs.Limits.{max_sites}
 use Rattle.action.specs.Permutation.{Permutes}
 use Rattle.elements.specs.HeldGroup.{generators_in}
 use Rattle.elements.proofs.TableRows.{order-positive-at}
 use Rattle.elements.proofs.Steps.{part_permutes}
-use Rattle.lettered.proofs.CodeSteps.{Going, going_start, going-last, going_on, going_end}
+use Rattle.lettered.proofs.CodeSteps.{going_start, going-last, going_on, going_end}
 use Rattle.lettered.proofs.walk.advance.Goals as goal
 
 pub loop-g-init : goal.loop-g-init
 loop-g-init c =
-    let gs = generators_in c.args.generators c.args.sites c.args.targets.now c.args.orders.now in
+    let gs = generators_in c.args.group.now.generators c.args.group.now.sites c.args.group.now.targets.now c.args.group.now.orders.now in
     (omega arith, c.requires.here_len, c.requires.spare_len, going_start gs c.args.index c.args.here.now)
 
 pub overflow_mul-start : goal.overflow_mul-start
@@ -41,7 +41,7 @@ slice_bounds-move_letters-end c =
 pub move_letters-requires : goal.move_letters-requires
 move_letters-requires c =
     let l = c.loop-g in record {
-      permutes = subst (λ (k : ℕ). Permutes k (take (max_sites * l.g + c.args.sites - max_sites * l.g) (drop (max_sites * l.g) c.args.targets.now))) (sym l.invariant.1)
+      permutes = subst (λ (k : ℕ). Permutes k (take (max_sites * l.g + c.args.group.now.sites - max_sites * l.g) (drop (max_sites * l.g) c.args.group.now.targets.now))) (sym l.invariant.1)
           (part_permutes c.requires.tables l.g c.loop-g-test.true);
       to_len = l.invariant.2 ∙ sym l.invariant.1;
     }
@@ -66,7 +66,7 @@ pub overflow_add-rest : goal.overflow_add-rest
 overflow_add-rest c =
     let l = c.loop-g in
     let o = order-positive-at c.requires.tables l.g c.loop-g-test.true in
-    omega (arith, mod-lt l.rest o, c.shared_slice_known-in-loop-g-1.given l.g)
+    omega (arith, mod-lt l.rest o)
 
 pub returns-then-rest-o : goal.returns-then-rest-o
 returns-then-rest-o c =
@@ -78,12 +78,6 @@ returns-then-rest-o c =
 
 pub nonzero_div-rest : goal.nonzero_div-rest
 nonzero_div-rest c = order-positive-at c.requires.tables c.loop-g.g c.loop-g-test.true
-
-pub overflow_add-g : goal.overflow_add-g
-overflow_add-g c = omega (arith, c.requires.tables.few, c.loop-g-test.true)
-
-pub loop-g-smaller : goal.loop-g-smaller
-loop-g-smaller c = omega (arith, c.loop-g-test.true)
 
 pub loop-g-preserved : goal.loop-g-preserved
 loop-g-preserved c =

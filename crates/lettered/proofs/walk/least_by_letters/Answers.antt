@@ -1,11 +1,10 @@
 -- `walk::least_by_letters` meets its contract: it lends room for the codes of as many sites.
-use borrow.Author.Rules.{rules}
 use Rattle.elements.proofs.Codes.{room}
 use Rattle.lettered.proofs.walk.least_by_letters.Goals as goal
 
 pub least_in_room-requires : goal.least_in_room-requires
 least_in_room-requires c =
-    let long = room c.args.sites c.requires.tables.sites in record {
+    let long = room c.args.group.now.sites c.requires.tables.sites in record {
       tables = c.requires.tables;
       accepted_word = c.requires.accepted_word;
       order_value = c.requires.order_value;

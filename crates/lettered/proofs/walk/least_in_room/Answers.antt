@@ -1,11 +1,10 @@
-use Prim.Native.Nat.{◌-◌}
 use mathlib.Core.Path.{sym, ◌∙◌}
 use native.Mathlib.Omega.{arith}
 use Rattle.pauli_word.specs.Bytes.{letters_in}
 use Rattle.pauli_word.proofs.Words.{decode-length}
 use Rattle.action.specs.Orbit.{least}
 use Rattle.elements.specs.HeldGroup.{generators_in}
-use Rattle.lettered.proofs.Leading.{Walked, walked_start, walked_next, walked_end, hand-long, lead-long, many-small}
+use Rattle.lettered.proofs.Leading.{walked_start, walked_next, walked_end, hand-long, lead-long, many-small}
 use Rattle.lettered.proofs.walk.least_in_room.Goals as goal
 
 pub unpack-requires : goal.unpack-requires
@@ -20,9 +19,9 @@ copy-requires c =
 
 pub loop-i-init : goal.loop-i-init
 loop-i-init c =
-    let gs = generators_in c.args.generators c.args.sites c.args.targets.now c.args.orders.now in
-    let w = letters_in c.args.sites c.args.word.now in
-    walked_start gs w c.args.order c.args.sites _ _ c.args.spare.now c.requires.spare_len c.unpack.ensures c.copy.ensures
+    let gs = generators_in c.args.group.now.generators c.args.group.now.sites c.args.group.now.targets.now c.args.group.now.orders.now in
+    let w = letters_in c.args.group.now.sites c.args.word.now in
+    walked_start gs w c.args.order c.args.group.now.sites _ _ c.args.spare.now c.requires.spare_len c.unpack.ensures c.copy.ensures
 
 pub take_codes-lead-requires : goal.take_codes-lead-requires
 take_codes-lead-requires c =
@@ -39,13 +38,6 @@ advance-requires c =
       spare_len = l.invariant.room;
     }
 
-pub overflow_add-i : goal.overflow_add-i
-overflow_add-i c =
-    omega (arith, c.requires.tables.small, c.requires.order_value, c.loop-i-test.true)
-
-pub loop-i-smaller : goal.loop-i-smaller
-loop-i-smaller c = omega (arith, c.loop-i-test.true)
-
 pub loop-i-preserved : goal.loop-i-preserved
 loop-i-preserved c =
     let l = c.loop-i in
@@ -60,8 +52,8 @@ pack-requires c =
 pub returns : goal.returns
 returns c =
     let l = c.loop-i in
-    let gs = generators_in c.args.generators c.args.sites c.args.targets.now c.args.orders.now in
-    let w = letters_in c.args.sites c.args.word.now in
+    let gs = generators_in c.args.group.now.generators c.args.group.now.sites c.args.group.now.targets.now c.args.group.now.orders.now in
+    let w = letters_in c.args.group.now.sites c.args.word.now in
     let end = walked_end l.invariant c.requires.tables.valid (decode-length c.requires.accepted_word) c.requires.order_value c.loop-i-test.false in record {
       word = c.pack.ensures (least gs w) end.0;
       index = end.1;

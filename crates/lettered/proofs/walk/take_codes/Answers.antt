@@ -1,9 +1,8 @@
 -- `walk::take_codes` meets its contract: each arm is what its order says.
+use Rattle.std.specs.declared.cmp.Ordering.{Ordering}
 use mathlib.Core.Path.{sym, ap, ◌∙◌}
-use Rattle.pauli_word.specs.declared.Ordering.{Ordering}
 use Rattle.elements.specs.Letters.{codes}
 use Rattle.rotation.specs.Rotation.{led, tied}
-use borrow.Author.Rules.{rules}
 use Rattle.lettered.proofs.walk.take_codes.Goals as goal
 
 pub returns-in-Less : goal.returns-in-Less
@@ -16,10 +15,10 @@ returns-in-Less c =
       best = λ v w ev ew. c.copy.ensures ∙ ev ∙ ap (λ (o : Ordering). codes (led o v w)) (sym told ∙ stands v w ev ew);
     }
 
-pub returns-in-Same : goal.returns-in-Same
-returns-in-Same c =
+pub returns-in-Equal : goal.returns-in-Equal
+returns-in-Equal c =
     let a = c.args in
-    let told = c.in-Same.is in
+    let told = c.in-Equal.is in
     let stands = c.compare.ensures in record {
       index = λ v w ev ew. ap (λ (o : Ordering). led o a.i a.index) (sym told ∙ stands v w ev ew);
       ties = λ v w ev ew. ap (λ (o : Ordering). tied o a.ties) (sym told ∙ stands v w ev ew);

@@ -1,11 +1,12 @@
 -- `checks::row_checked` meets its contract: the word's check decides, and then the test of the coefficient.
+use Rattle.outcome.proofs.Outcomes.{handed_on}
 use Prim.Native.Nat.{ℕ}
 use mathlib.Core.Path.{◌≡◌, sym, ap, ◌∙◌}
 use mathlib.Core.List.{List, [], ◌∷◌}
 use lib.ListN.{length, get_or}
 use lib.Ieee.{nan}
 use borrow.Author.Rules.{rules}
-use Rattle.outcome.specs.Outcome.{answer, verdict, outcome_of_verdict, Check}
+use Rattle.outcome.specs.Outcome.{answer, verdict, outcome_of, Check}
 use Rattle.pauli_word.specs.Bytes.{in_full}
 use Rattle.row_lists.specs.Rows.{row_by}
 use Rattle.row_lists.specs.Checks.{bit_above_sites}
@@ -22,18 +23,19 @@ word_checked-requires c =
       size_in_bounds = row_inside c.args.size (length c.args.coefficients.now) c.args.words.now long c.args.i c.requires.i_in_bounds;
     }
 
-pub returns-in-Refused : goal.returns-in-Refused
-returns-in-Refused c =
-    sym (own-refused c.args.sites c.args.i (in_full (row_by c.args.size c.args.words.now c.args.i)) (not_finite c.args.i (get_or c.args.coefficients.now c.args.i nan)) c.in-Refused.why (sym c.word_checked.ensures ∙ ap outcome_of_verdict c.in-Refused.is))
+pub returns-in_err-word_checked : goal.returns-in_err-word_checked
+returns-in_err-word_checked c =
+    ap outcome_of (handed_on c.from_residual.result c.from_residual.ensures.1)
+    ∙ (sym (own-refused c.args.sites c.args.i (in_full (row_by c.args.size c.args.words.now c.args.i)) (not_finite c.args.i (get_or c.args.coefficients.now c.args.i nan)) c.in_err-word_checked.field-0.0 (sym c.word_checked.ensures ∙ ap outcome_of c.in_err-word_checked.was)))
 
 pub returns-then-is_finite : goal.returns-then-is_finite
 returns-then-is_finite c =
     sym
-    (own-decides c.args.sites c.args.i (in_full (row_by c.args.size c.args.words.now c.args.i)) (not_finite c.args.i (get_or c.args.coefficients.now c.args.i nan)) (sym c.word_checked.ensures ∙ ap outcome_of_verdict c.in-Accepted.is)
+    (own-decides c.args.sites c.args.i (in_full (row_by c.args.size c.args.words.now c.args.i)) (not_finite c.args.i (get_or c.args.coefficients.now c.args.i nan)) (sym c.word_checked.ensures ∙ ap outcome_of c.in_ok-word_checked.was)
     ∙ finite-kept c.args.i (get_or c.args.coefficients.now c.args.i nan) (sym c.is_finite.ensures ∙ c.if-is_finite.true))
 
 pub returns-else-is_finite : goal.returns-else-is_finite
 returns-else-is_finite c =
     sym
-    (own-decides c.args.sites c.args.i (in_full (row_by c.args.size c.args.words.now c.args.i)) (not_finite c.args.i (get_or c.args.coefficients.now c.args.i nan)) (sym c.word_checked.ensures ∙ ap outcome_of_verdict c.in-Accepted.is)
+    (own-decides c.args.sites c.args.i (in_full (row_by c.args.size c.args.words.now c.args.i)) (not_finite c.args.i (get_or c.args.coefficients.now c.args.i nan)) (sym c.word_checked.ensures ∙ ap outcome_of c.in_ok-word_checked.was)
     ∙ finite-broken c.args.i (get_or c.args.coefficients.now c.args.i nan) (sym c.is_finite.ensures ∙ c.if-is_finite.false))

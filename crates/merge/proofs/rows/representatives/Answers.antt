@@ -41,7 +41,7 @@ least_rows-requires c =
     let same = sym (indices-length few_rows a.rows (omega (arith, c.if-rows-le-FEW_ROWS.true))) in record {
       tables = tables;
       either_length = (either, long ∙ ap (λ (k : ℕ). a.size * k) same);
-      accepted_rows = subst (λ (k : ℕ). AcceptedRows a.sites (in_full_by a.size k a.words.now) k) same rows;
+      accepted_rows = subst (λ (k : ℕ). AcceptedRows a.group.now.sites (in_full_by a.size k a.words.now) k) same rows;
       representatives_len = room ∙ ap (λ (k : ℕ). word_length * k) same;
     }
 
@@ -49,7 +49,7 @@ pub returns-then-rows-le-FEW_ROWS : goal.returns-then-rows-le-FEW_ROWS
 returns-then-rows-le-FEW_ROWS c =
     let a = c.args in
     c.least_rows.ensures.representatives
-    ∙ kept-words (generators_in a.generators a.sites a.targets.now a.orders.now) a.sites a.size a.words.now (indices-length few_rows a.rows (omega (arith, c.if-rows-le-FEW_ROWS.true)))
+    ∙ kept-words (generators_in a.group.now.generators a.group.now.sites a.group.now.targets.now a.group.now.orders.now) a.group.now.sites a.size a.words.now (indices-length few_rows a.rows (omega (arith, c.if-rows-le-FEW_ROWS.true)))
 
 pub least_rows-requires-2 : goal.least_rows-requires-2
 least_rows-requires-2 c =
@@ -61,7 +61,7 @@ least_rows-requires-2 c =
     let same = sym (indices-length max_rows a.rows rows.few) in record {
       tables = tables;
       either_length = (either, long ∙ ap (λ (k : ℕ). a.size * k) same);
-      accepted_rows = subst (λ (k : ℕ). AcceptedRows a.sites (in_full_by a.size k a.words.now) k) same rows;
+      accepted_rows = subst (λ (k : ℕ). AcceptedRows a.group.now.sites (in_full_by a.size k a.words.now) k) same rows;
       representatives_len = room ∙ ap (λ (k : ℕ). word_length * k) same;
     }
 
@@ -69,4 +69,4 @@ pub returns : goal.returns
 returns c =
     let a = c.args in
     c.least_rows-2.ensures.representatives
-    ∙ kept-words (generators_in a.generators a.sites a.targets.now a.orders.now) a.sites a.size a.words.now (indices-length max_rows a.rows c.requires.accepted_rows.few)
+    ∙ kept-words (generators_in a.group.now.generators a.group.now.sites a.group.now.targets.now a.group.now.orders.now) a.group.now.sites a.size a.words.now (indices-length max_rows a.rows c.requires.accepted_rows.few)

@@ -5,7 +5,6 @@ use Rattle.group.specs.declared.Group.{Group}
 use Rattle.permutation.specs.Limits.{max_order}
 use Rattle.orbit.specs.Calls.{no_walk}
 use Rattle.row_lists.specs.Rows.{no_word}
-use borrow.Author.Rules.{rules}
 use Rattle.orbit.proofs.steps.no_walk.Goals as goal
 
 pub returns : goal.returns

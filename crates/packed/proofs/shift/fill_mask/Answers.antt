@@ -1,13 +1,10 @@
-use Prim.Native.Nat.{ℕ, ◌+◌, ◌-◌, ◌%◌, ◌<◌, ◌≤◌}
+use Prim.Native.Nat.{ℕ, ◌+◌, ◌-◌, ◌%◌, ◌≤◌}
 use mathlib.Core.Path.{◌≡◌, refl, ap, ◌∙◌}
 use mathlib.Core.Bool.{not}
 use native.Mathlib.Nat.{mod_self}
 use native.Mathlib.Omega.{arith}
-use borrow.Author.Rules.{rules}
 use lib.Dec.{ltb}
-use lib.ListN.{length}
-use Rattle.packed.specs.Packed.{bit_of}
-use Rattle.packed.proofs.Masks.{run_bits, pattern_bits, pattern_start, pattern_next, pattern_done, pattern_none, blocks_add, blocks_less, blocks_least, block_fits}
+use Rattle.packed.proofs.Masks.{run_bits, pattern_start, pattern_next, pattern_done, pattern_none, blocks_add, blocks_less, blocks_least, block_fits}
 use Rattle.packed.proofs.shift.fill_mask.Goals as goal
 
 pub fill_run-requires : goal.fill_run-requires

@@ -1,14 +1,9 @@
 -- `shift::fill_mask` meets its contract. The loop's invariant: the mask holds the pattern of the run over the covered sites, which are whole blocks.
-use Prim.Native.Nat.{ℕ, ◌+◌, ◌-◌, ◌%◌, ◌<◌, ◌≤◌}
-use mathlib.Core.Path.{◌≡◌, refl, ap, ◌∙◌}
-use mathlib.Core.Bool.{not}
-use native.Mathlib.Nat.{mod_self}
-use native.Mathlib.Omega.{arith}
-use borrow.Author.Rules.{rules}
-use lib.Dec.{ltb}
+use Prim.Native.Nat.{ℕ, ◌-◌, ◌%◌, ◌<◌, ◌≤◌}
+use mathlib.Core.Path.{◌≡◌}
 use lib.ListN.{length}
 use Rattle.packed.specs.Packed.{bit_of}
-use Rattle.packed.proofs.Masks.{run_bits, pattern_bits, pattern_start, pattern_next, pattern_done, pattern_none, blocks_add, blocks_less, blocks_least, block_fits}
+use Rattle.packed.proofs.Masks.{run_bits, pattern_bits}
 use Rattle.packed.proofs.shift.fill_mask.Given as goal
 
 abbrev pub invariant-loop-covered : goal.invariant-loop-covered

@@ -1,10 +1,8 @@
-use Prim.Native.Nat.{◌-◌, ◌≤◌}
-use mathlib.Core.Path.{◌≡◌, refl, ◌∙◌}
+use mathlib.Core.Path.{refl, ◌∙◌}
 use native.Mathlib.Omega.{arith}
-use borrow.Author.Rules.{rules}
-use lib.ListN.{length, length-set}
+use lib.ListN.{length-set}
 use lib.Bits.{bit_xor}
-use Rattle.packed.proofs.Packing.{Between, between_next}
+use Rattle.packed.proofs.Packing.{between_next}
 use Rattle.packed.proofs.Masks.{run_bits, run_word, run_bits_lem}
 use Rattle.packed.proofs.shift.fill_run.Goals as goal
 
@@ -16,14 +14,6 @@ offset_bounds-mask-i c = omega arith
 
 pub bounds-mask-i : goal.bounds-mask-i
 bounds-mask-i c = omega arith
-
-pub overflow_add-i : goal.overflow_add-i
-overflow_add-i c = omega arith
-
-pub loop-i-smaller : goal.loop-i-smaller
-loop-i-smaller c =
-    let l = c.loop-i in
-    omega (arith, length-set l.mask l.i (bit_xor c.ones_word.result c.ones_word-in-loop-i.result))
 
 pub loop-i-preserved : goal.loop-i-preserved
 loop-i-preserved c =
@@ -39,4 +29,4 @@ loop-i-preserved c =
 pub returns : goal.returns
 returns c =
     let l = c.loop-i in
-    run_bits_lem c.args.low c.args.high l.mask l.i (omega (arith, c.requires.1, l.invariant.1)) c.loop-i-test.false l.invariant.2
+    run_bits_lem c.args.low c.args.high l.mask l.i (omega (arith, c.requires.1, l.invariant.1)) (omega (arith, c.loop-i.auto.mask)) l.invariant.2

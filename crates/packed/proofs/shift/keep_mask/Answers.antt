@@ -1,5 +1,4 @@
 -- `shift::keep_mask` meets its contract.
-use borrow.Author.Rules.{rules}
 use Rattle.packed.proofs.Masks.{keep_masked}
 use Rattle.packed.proofs.shift.keep_mask.Goals as goal
 

@@ -1,6 +1,5 @@
 -- `shift::lifted` meets its contract.
 use Rattle.packed.proofs.Shifts.{lift_some, lift_all}
-use borrow.Author.Rules.{rules}
 use Rattle.packed.proofs.shift.lifted.Goals as goal
 
 pub returns-then-s-lt-WORD_BITS : goal.returns-then-s-lt-WORD_BITS

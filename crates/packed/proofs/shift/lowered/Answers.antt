@@ -1,6 +1,5 @@
 -- `shift::lowered` meets its contract.
 use Rattle.packed.proofs.Shifts.{lower_some, lower_all}
-use borrow.Author.Rules.{rules}
 use Rattle.packed.proofs.shift.lowered.Goals as goal
 
 pub returns-then-t-lt-WORD_BITS : goal.returns-then-t-lt-WORD_BITS

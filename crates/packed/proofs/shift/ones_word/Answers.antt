@@ -4,7 +4,6 @@ use native.Mathlib.Omega.{arith}
 use lib.Pow.{pow_pos}
 use Rattle.packed.specs.Packed.{word_bits}
 use Rattle.packed.proofs.Masks.{ones_full, ones_none, one_shifted, ones_last}
-use borrow.Author.Rules.{rules}
 use Rattle.packed.proofs.shift.ones_word.Goals as goal
 
 pub returns-then-i-last : goal.returns-then-i-last

@@ -1,20 +1,14 @@
-use Prim.Native.Nat.{ℕ, ◌-◌, ◌<◌, ◌≤◌}
-use mathlib.Core.Path.{◌≡◌, refl, ◌∙◌}
+use Prim.Native.Nat.{◌-◌}
+use mathlib.Core.Path.{refl, ◌∙◌}
 use native.Mathlib.Omega.{arith}
-use borrow.Author.Rules.{rules}
 use lib.ListN.{length, get_or, length-set}
 use lib.Seq.{get_or-set_other}
 use lib.Bits.{bit_or}
-use Rattle.packed.specs.Packed.{bit_of}
-use Rattle.packed.proofs.Packing.{Between}
-use Rattle.packed.proofs.Shifts.{with_moved, moved-next}
+use Rattle.packed.proofs.Shifts.{moved-next}
 use Rattle.packed.proofs.shift.or_moved_up.Goals as goal
 
 pub loop-i-init : goal.loop-i-init
 loop-i-init c = (omega arith, refl, λ j h. refl, λ j h l. absurd (omega arith))
-
-pub overflow_sub-i : goal.overflow_sub-i
-overflow_sub-i c = omega arith
 
 pub offset_bounds-mask-i : goal.offset_bounds-mask-i
 offset_bounds-mask-i c = omega arith
@@ -27,9 +21,6 @@ offset_bounds-mask-i-in-loop-i c = omega arith
 
 pub bounds-mask-i-in-loop-i : goal.bounds-mask-i-in-loop-i
 bounds-mask-i-in-loop-i c = omega arith
-
-pub loop-i-smaller : goal.loop-i-smaller
-loop-i-smaller c = omega arith
 
 pub loop-i-preserved : goal.loop-i-preserved
 loop-i-preserved c =

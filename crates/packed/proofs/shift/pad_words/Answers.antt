@@ -1,8 +1,8 @@
-use Prim.Native.Nat.{◌+◌, ◌-◌, ◌≤◌}
-use mathlib.Core.Path.{◌≡◌, refl, ◌∙◌}
+use Prim.Native.Nat.{◌+◌}
+use mathlib.Core.Path.{refl, ◌∙◌}
 use native.Mathlib.Omega.{arith}
-use lib.ListN.{length, get_or, length-set}
-use Rattle.packed.proofs.Shifts.{Padded, padded_next, padded_all}
+use lib.ListN.{get_or, length-set}
+use Rattle.packed.proofs.Shifts.{padded_next, padded_all}
 use Rattle.packed.proofs.shift.pad_words.Goals as goal
 
 pub loop-i-init : goal.loop-i-init
@@ -22,12 +22,6 @@ offset_bounds-pad-before c = omega arith
 
 pub bounds-pad-before : goal.bounds-pad-before
 bounds-pad-before c = omega arith
-
-pub overflow_add-i : goal.overflow_add-i
-overflow_add-i c = omega arith
-
-pub loop-i-smaller : goal.loop-i-smaller
-loop-i-smaller c = omega arith
 
 pub loop-i-preserved : goal.loop-i-preserved
 loop-i-preserved c =

@@ -1,13 +1,9 @@
 -- `shift::pad_words` meets its contract. The loop's invariant: the words before i are copied.
-use Prim.Native.Nat.{◌+◌, ◌-◌, ◌≤◌}
-use mathlib.Core.Path.{◌≡◌, refl, ◌∙◌}
-use native.Mathlib.Omega.{arith}
-use lib.ListN.{length, get_or, length-set}
-use Rattle.packed.proofs.Shifts.{Padded, padded_next, padded_all}
+use Prim.Native.Nat.{◌≤◌}
+use mathlib.Core.Path.{◌≡◌}
+use lib.ListN.{length}
+use Rattle.packed.proofs.Shifts.{Padded}
 use Rattle.packed.proofs.shift.pad_words.Given as goal
 
 abbrev pub invariant-loop-i : goal.invariant-loop-i
 invariant-loop-i l = (l.i ≤ length l.plane) × (length l.pad ≡ length l.initial.pad) × Padded l.before l.i l.plane l.pad
-
-abbrev pub decreases-loop-i : goal.decreases-loop-i
-decreases-loop-i l = length l.plane - l.i

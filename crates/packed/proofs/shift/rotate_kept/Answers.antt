@@ -1,7 +1,6 @@
 -- `shift::rotate_kept` meets its contract.
 use native.Mathlib.Omega.{arith}
 use Rattle.packed.proofs.Masks.{block_fits, turned_plane, turned_none}
-use borrow.Author.Rules.{rules}
 use Rattle.packed.proofs.shift.rotate_kept.Goals as goal
 
 pub returns-then-sites-eq0 : goal.returns-then-sites-eq0

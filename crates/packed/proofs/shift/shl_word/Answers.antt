@@ -1,7 +1,6 @@
 -- `shift::shl_word` meets its contract: at the words below the shift, at the one where it ends, and above.
 use native.Mathlib.Omega.{arith}
 use Rattle.packed.proofs.Shifts.{up_none, up_first, up-whole}
-use borrow.Author.Rules.{rules}
 use Rattle.packed.proofs.shift.shl_word.Goals as goal
 
 pub returns-then-i-words : goal.returns-then-i-words

@@ -1,12 +1,11 @@
-use Prim.Native.Nat.{ℕ, ◌+◌, ◌-◌, ◌*◌, ◌≤◌}
-use mathlib.Core.Path.{◌≡◌, refl, ◌∙◌}
+use Prim.Native.Nat.{ℕ, ◌+◌, ◌-◌, ◌*◌}
+use mathlib.Core.Path.{refl, ◌∙◌}
 use mathlib.Core.Bool.{Bool, cond}
 use mathlib.Core.List.{List}
 use native.Mathlib.Omega.{arith}
-use borrow.Author.Rules.{rules}
-use lib.ListN.{length, length-set}
+use lib.ListN.{length-set}
 use Rattle.packed.specs.Packed.{word_bits, bit_of}
-use Rattle.packed.proofs.Packing.{Between, between_next}
+use Rattle.packed.proofs.Packing.{between_next}
 use Rattle.packed.proofs.Masks.{turned_word}
 use Rattle.packed.proofs.shift.turn_padded.Goals as goal
 
@@ -46,14 +45,6 @@ offset_bounds-plane-i c = omega arith
 
 pub bounds-plane-i : goal.bounds-plane-i
 bounds-plane-i c = omega arith
-
-pub overflow_add-i : goal.overflow_add-i
-overflow_add-i c = omega arith
-
-pub loop-i-smaller : goal.loop-i-smaller
-loop-i-smaller c =
-    let l = c.loop-i in
-    omega (arith, length-set l.plane l.i c.pick.result)
 
 pub loop-i-preserved : goal.loop-i-preserved
 loop-i-preserved c =

@@ -1,14 +1,11 @@
 -- `shift::turn_padded` meets its contract. The loop's invariant: the words before i are turned.
 use Prim.Native.Nat.{ℕ, ◌+◌, ◌-◌, ◌*◌, ◌≤◌}
-use mathlib.Core.Path.{◌≡◌, refl, ◌∙◌}
+use mathlib.Core.Path.{◌≡◌}
 use mathlib.Core.Bool.{Bool, cond}
 use mathlib.Core.List.{List}
-use native.Mathlib.Omega.{arith}
-use borrow.Author.Rules.{rules}
-use lib.ListN.{length, length-set}
+use lib.ListN.{length}
 use Rattle.packed.specs.Packed.{word_bits, bit_of}
-use Rattle.packed.proofs.Packing.{Between, between_next}
-use Rattle.packed.proofs.Masks.{turned_word}
+use Rattle.packed.proofs.Packing.{Between}
 use Rattle.packed.proofs.shift.turn_padded.Given as goal
 
 -- the bits of a padded plane, turned
@@ -17,6 +14,3 @@ turned_in pad before keep s t q = cond (bit_of keep q) (bit_of pad (word_bits * 
 
 abbrev pub invariant-loop-i : goal.invariant-loop-i
 invariant-loop-i l = (l.i ≤ length l.plane) × (length l.plane ≡ length l.initial.plane) × Between (turned_in l.pad l.before l.keep l.s l.t) 0 l.i l.plane
-
-abbrev pub decreases-loop-i : goal.decreases-loop-i
-decreases-loop-i l = length l.plane - l.i

@@ -1,7 +1,6 @@
 -- `shift::turn_word` meets its contract.
 use lib.ListN.{get_or}
 use Rattle.packed.proofs.Masks.{turned_one, turned_picked}
-use borrow.Author.Rules.{rules}
 use Rattle.packed.proofs.shift.turn_word.Goals as goal
 
 pub returns : goal.returns

@@ -1,7 +1,6 @@
 -- `shift::word_or_zero` meets its contract: past its end a list gives 0.
 use mathlib.Core.Path.{sym}
 use lib.ListN.{get_or-eq_default}
-use borrow.Author.Rules.{rules}
 use Rattle.packed.proofs.shift.word_or_zero.Goals as goal
 
 pub returns-else-i-plane : goal.returns-else-i-plane

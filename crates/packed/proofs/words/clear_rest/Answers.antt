@@ -1,9 +1,6 @@
-use Prim.Native.Nat.{ℕ, ◌-◌, ◌*◌, ◌≤◌, ◌<◌}
-use mathlib.Core.Path.{◌≡◌, refl}
-use mathlib.Core.Bool.{Bool, false}
+use mathlib.Core.Path.{refl}
 use native.Mathlib.Omega.{arith}
-use lib.ListN.{length, get_or, length-set}
-use Rattle.pauli_word.specs.Bytes.{plane_bits}
+use lib.ListN.{length-set}
 use Rattle.packed.proofs.Packing.{cleared-next, cleared-end}
 use Rattle.packed.proofs.words.clear_rest.Goals as goal
 
@@ -12,12 +9,6 @@ loop-j-init c = (omega arith, refl, λ f none old. old)
 
 pub bounds-plane-j : goal.bounds-plane-j
 bounds-plane-j c = omega arith
-
-pub overflow_add-j : goal.overflow_add-j
-overflow_add-j c = omega arith
-
-pub loop-j-smaller : goal.loop-j-smaller
-loop-j-smaller c = omega arith
 
 pub loop-j-preserved : goal.loop-j-preserved
 loop-j-preserved c =

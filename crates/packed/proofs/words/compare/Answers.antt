@@ -1,8 +1,5 @@
-use Prim.Native.Nat.{ℕ, ◌-◌, ◌*◌, ◌≤◌, ◌<◌}
-use mathlib.Core.Path.{◌≡◌}
 use native.Mathlib.Omega.{arith}
 use lib.ListN.{length}
-use Rattle.packed.specs.Packed.{word_bits, bit_of}
 use Rattle.packed.proofs.Comparing.{compared-next, compared_word}
 use Rattle.packed.proofs.words.compare.Goals as goal
 
@@ -37,12 +34,6 @@ returns-then-x-y c =
     (c.shared_slice_known-in-loop-i-1.given l.i).fits
     (c.shared_slice_known-in-loop-i-2-1.given l.i).fits
     c.compare_word.ensures
-
-pub overflow_add-i : goal.overflow_add-i
-overflow_add-i c = omega arith
-
-pub loop-i-smaller : goal.loop-i-smaller
-loop-i-smaller c = omega arith
 
 pub loop-i-preserved : goal.loop-i-preserved
 loop-i-preserved c =

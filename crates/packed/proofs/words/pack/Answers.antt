@@ -1,10 +1,6 @@
-use Prim.Native.Nat.{ℕ, ◌-◌, ◌*◌, ◌≤◌, ◌<◌}
-use mathlib.Core.Path.{◌≡◌, refl}
-use mathlib.Core.Bool.{false}
+use mathlib.Core.Path.{refl}
 use native.Mathlib.Omega.{arith}
-use lib.ListN.{length, get_or, length-set}
-use Rattle.pauli_word.specs.Bytes.{plane_bits}
-use Rattle.packed.specs.Packed.{word_bits, bit_of}
+use lib.ListN.{length-set}
 use Rattle.packed.proofs.Packing.{packed_next}
 use Rattle.packed.proofs.words.pack.Goals as goal
 
@@ -22,12 +18,6 @@ offset_bounds-words-j c = omega arith
 
 pub bounds-words-j : goal.bounds-words-j
 bounds-words-j c = omega arith
-
-pub overflow_add-j : goal.overflow_add-j
-overflow_add-j c = omega arith
-
-pub loop-j-smaller : goal.loop-j-smaller
-loop-j-smaller c = omega arith
 
 pub loop-j-preserved : goal.loop-j-preserved
 loop-j-preserved c =

@@ -3,7 +3,6 @@ use mathlib.Core.Path.{refl}
 use native.Mathlib.Omega.{arith}
 use lib.ListN.{length, length-set}
 use Rattle.packed.proofs.Packing.{put_first, put_next}
-use borrow.Author.Rules.{rules}
 use Rattle.packed.proofs.words.put_word.Goals as goal
 
 pub bounds-plane-at-2 : goal.bounds-plane-at-2

@@ -1,9 +1,5 @@
-use Prim.Native.Nat.{ℕ, ◌-◌, ◌*◌, ◌≤◌, ◌<◌}
-use mathlib.Core.Path.{◌≡◌, refl, sym, ◌∙◌}
-use mathlib.Core.Bool.{false}
+use mathlib.Core.Path.{refl, sym, ◌∙◌}
 use native.Mathlib.Omega.{arith}
-use lib.ListN.{length, get_or}
-use Rattle.pauli_word.specs.Bytes.{plane_bits}
 use Rattle.packed.specs.Packed.{bit_of}
 use Rattle.packed.proofs.Packing.{bit_of_past, bit_of_byte}
 use Rattle.packed.proofs.words.unpack.Goals as goal
@@ -23,12 +19,6 @@ overflow_mul-i c = omega arith
 pub put_word-requires : goal.put_word-requires
 put_word-requires c = omega arith
 
-pub overflow_add-i : goal.overflow_add-i
-overflow_add-i c = omega arith
-
-pub loop-i-smaller : goal.loop-i-smaller
-loop-i-smaller c = omega arith
-
 pub loop-i-preserved : goal.loop-i-preserved
 loop-i-preserved c =
     let words = c.args.words.now in
@@ -38,11 +28,11 @@ loop-i-preserved c =
       λ q h. c.put_word.ensures (bit_of words) (λ k g. sym (bit_of_byte words l.i k g)) l.invariant.2 q (omega arith),
     )
 
-pub overflow_mul-i-2 : goal.overflow_mul-i-2
-overflow_mul-i-2 c = omega arith
+pub overflow_mul-words : goal.overflow_mul-words
+overflow_mul-words c = omega arith
 
 pub returns : goal.returns
 returns c =
     let words = c.args.words.now in
     let l = c.loop-i in
-    c.clear_rest.ensures (bit_of words) (λ q h. bit_of_past words q (omega arith)) l.invariant.2
+    c.clear_rest.ensures (bit_of words) (λ q h. bit_of_past words q (omega arith)) (λ q h. l.invariant.2 q (omega arith))

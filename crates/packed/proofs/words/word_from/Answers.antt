@@ -4,7 +4,6 @@ use native.Mathlib.Omega.{arith}
 use lib.ListN.{get_or}
 use Rattle.pauli_word.specs.Bytes.{byte_values}
 use Rattle.packed.proofs.Packing.{holding_one, holding-next}
-use borrow.Author.Rules.{rules}
 use Rattle.packed.proofs.words.word_from.Goals as goal
 
 pub returns : goal.returns

@@ -1,7 +1,6 @@
 -- `divided::find_parts` meets its contract: it says yes only where the test of labels and owners passes.
 use borrow.Author.Tests.{not-false}
 use mathlib.Core.Bool.{false≢true}
-use borrow.Author.Rules.{rules}
 use Rattle.parted.proofs.divided.find_parts.Goals as goal
 
 pub returns-then-not-is_divided : goal.returns-then-not-is_divided

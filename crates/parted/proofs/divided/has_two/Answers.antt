@@ -1,5 +1,3 @@
-use lib.ListN.{length}
-use Prim.Native.Nat.{◌-◌, ◌<◌}
 use native.Mathlib.Omega.{arith}
 use Rattle.parted.proofs.divided.has_two.Goals as goal
 
@@ -17,12 +15,6 @@ bounds-labels-0 c = omega arith
 
 pub returns-then-labels-g : goal.returns-then-labels-g
 returns-then-labels-g c = omega arith
-
-pub overflow_add-g : goal.overflow_add-g
-overflow_add-g c = omega arith
-
-pub loop-g-smaller : goal.loop-g-smaller
-loop-g-smaller c = omega arith
 
 pub loop-g-preserved : goal.loop-g-preserved
 loop-g-preserved c = omega arith

@@ -1,6 +1,5 @@
 -- `divided::is_numbered` meets its contract: the lists stay as long as they were.
 use mathlib.Core.Path.{◌∙◌}
-use borrow.Author.Rules.{rules}
 use Rattle.parted.proofs.divided.is_numbered.Goals as goal
 
 pub is_renumbered-requires : goal.is_renumbered-requires

@@ -11,8 +11,7 @@ use Rattle.pauli_word.specs.Bytes.{letters_in, bytes_of}
 use Rattle.pauli_word.specs.Word.{Word}
 use Prim.Native.Nat.{ℕ}
 use native.Mathlib.Omega.{arith}
-use mathlib.Core.Path.{◌≡◌, sym, ap, subst, ◌∙◌}
-use borrow.Author.Rules.{rules}
+use mathlib.Core.Path.{◌≡◌, ap, subst, ◌∙◌}
 use Rattle.parted.proofs.part.in_codes.Goals as goal
 
 pub take_out-requires : goal.take_out-requires
@@ -31,9 +30,9 @@ pub least_by-led-requires : goal.least_by-led-requires
 least_by-led-requires c =
     let w = letters_in c.args.sites c.args.row.now in
     let site = site_of c.args.table.now in
-    let read : c.copy.new.dst ≡ bytes_of (read_by c.args.m site w) =
+    let read : c.copy.new.dst ≡ bytes_of (read_by c.args.own_group.now.sites site w) =
     c.copy.ensures
-    ∙ c.pack-word.ensures (read_by c.args.m site w)
+    ∙ c.pack-word.ensures (read_by c.args.own_group.now.sites site w)
     (c.take_out.ensures w c.unpack.ensures ∙ ap (λ (k : ℕ). codes (read_by k site w)) c.requires.codes_len.1) in
     let q = c.requires.codes_len in record {
       tables = c.requires.tables;
@@ -47,9 +46,9 @@ pub unpack-requires-2 : goal.unpack-requires-2
 unpack-requires-2 c =
     let w = letters_in c.args.sites c.args.row.now in
     let site = site_of c.args.table.now in
-    let read : c.copy.new.dst ≡ bytes_of (read_by c.args.m site w) =
+    let read : c.copy.new.dst ≡ bytes_of (read_by c.args.own_group.now.sites site w) =
     c.copy.ensures
-    ∙ c.pack-word.ensures (read_by c.args.m site w)
+    ∙ c.pack-word.ensures (read_by c.args.own_group.now.sites site w)
     (c.take_out.ensures w c.unpack.ensures ∙ ap (λ (k : ℕ). codes (read_by k site w)) c.requires.codes_len.1) in record {
       accepted_word = least-accepted c.requires.tables.sites site w read c.requires.tables.valid c.least_by-led.ensures.word;
       letters_len = c.take_out.auto.out ∙ c.requires.codes_len.1;
@@ -76,19 +75,19 @@ returns c =
     let a = c.args in
     let w = letters_in c.args.sites c.args.row.now in
     let site = site_of c.args.table.now in
-    let read : c.copy.new.dst ≡ bytes_of (read_by c.args.m site w) =
+    let read : c.copy.new.dst ≡ bytes_of (read_by c.args.own_group.now.sites site w) =
     c.copy.ensures
-    ∙ c.pack-word.ensures (read_by c.args.m site w)
+    ∙ c.pack-word.ensures (read_by c.args.own_group.now.sites site w)
     (c.take_out.ensures w c.unpack.ensures ∙ ap (λ (k : ℕ). codes (read_by k site w)) c.requires.codes_len.1) in
     let ok = c.requires.accepted_word in
-    let hs = generators_in a.generators a.m a.targets.now a.orders.now in
+    let hs = generators_in a.own_group.now.generators a.own_group.now.sites a.own_group.now.targets.now a.own_group.now.orders.now in
     let letters = read_letters c.requires.tables.sites site w read in
     let long = least-long c.requires.tables.sites site w read c.requires.tables.valid c.least_by-led.ensures.word in
     let out = c.unpack-2.ensures ∙ ap codes (least-letters c.requires.tables.sites site w read c.requires.tables.valid c.least_by-led.ensures.word) in record {
       index = c.least_by-led.ensures.index ∙ ap (index_back hs) letters;
       word = λ y placed. c.copy-2.ensures
           ∙ c.pack-whole.ensures y
-          (c.put_back.ensures (least hs (read_by a.m site w)) w y out c.unpack.ensures (placed-long placed long (decode-length ok)) (placed-here placed long (decode-length ok)) (placed-there placed long (decode-length ok)));
+          (c.put_back.ensures (least hs (read_by a.own_group.now.sites site w)) w y out c.unpack.ensures (placed-long placed long (decode-length ok)) (placed-here placed long (decode-length ok)) (placed-there placed long (decode-length ok)));
       own = read;
       least = least-bytes c.requires.tables.sites site w read c.requires.tables.valid c.least_by-led.ensures.word;
       fixing = subst (λ (x : Word). Says c.least_by-led.result.fixing hs x c.least_by-led.new.left) letters c.least_by-led.ensures.fixing;

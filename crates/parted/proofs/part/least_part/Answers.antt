@@ -3,7 +3,6 @@ use Rattle.parted.proofs.Replacing.{room-length}
 use Rattle.pauli_word.specs.Limits.{word_length}
 use lib.ListN.{length-replicate}
 use Prim.Native.Nat.{ℕ}
-use borrow.Author.Rules.{rules}
 use Rattle.parted.proofs.part.least_part.Goals as goal
 
 pub in_codes-led-requires : goal.in_codes-led-requires
@@ -14,5 +13,5 @@ in_codes-led-requires c =
       order_value = c.requires.order_value;
       numbering = c.requires.numbering;
       accepted_word = ok;
-      codes_len = (room-length c.args.sites ok.sites, room-length c.args.m c.requires.tables.sites, length-replicate {A = ℕ} word_length 0, length-replicate {A = ℕ} word_length 0, l);
+      codes_len = (room-length c.args.sites ok.sites, room-length c.args.own_group.now.sites c.requires.tables.sites, length-replicate {A = ℕ} word_length 0, length-replicate {A = ℕ} word_length 0, l);
     }

@@ -3,7 +3,6 @@ use Rattle.pauli_word.specs.Limits.{max_sites}
 use lib.ListN.{length-replicate}
 use Prim.Native.Nat.{ℕ}
 use mathlib.Core.Path.{refl}
-use borrow.Author.Rules.{rules}
 use Rattle.parted.proofs.prepared.prepare.Goals as goal
 
 pub prepare_in-requires : goal.prepare_in-requires

@@ -3,7 +3,6 @@ use lib.ListN.{get_or}
 use native.Mathlib.Omega.{arith}
 use native.Mathlib.Numerals.{add-one}
 use mathlib.Core.Path.{◌∙◌}
-use borrow.Author.Rules.{rules}
 use Rattle.parted.proofs.prepared.prepare_in.Goals as goal
 
 pub fill_part-requires : goal.fill_part-requires

@@ -10,7 +10,7 @@ use native.Mathlib.Omega.{arith}
 use native.Mathlib.Numerals.{add-one}
 use mathlib.Core.List.{List}
 use mathlib.Core.Path.{◌≡◌, refl, sym, ap, subst, ◌∙◌}
-use Prim.Native.Nat.{ℕ, ◌-◌, ◌*◌, ◌≤◌, ◌<◌}
+use Prim.Native.Nat.{ℕ, ◌*◌, ◌<◌}
 use Rattle.parted.proofs.rows.least_rows.Goals as goal
 
 -- there is a label for each generator
@@ -32,22 +32,16 @@ part_of_all-requires c =
       by_index = λ i h. (stands-accepted v labels (labelled c.args.labels.now c.requires.tables.0 c.requires.tables.1) c.requires.tables.0.sites (l.invariant.3 i h), stands-below v labels (labelled c.args.labels.now c.requires.tables.0 c.requires.tables.1) c.requires.tables.0.sites (l.invariant.3 i h));
     }
 
-pub overflow_add-part : goal.overflow_add-part
-overflow_add-part c = omega (arith, c.loop-part-test.true, c.requires.tables.0.few)
-
-pub loop-part-smaller : goal.loop-part-smaller
-loop-part-smaller c = omega (arith, c.loop-part-test.true)
-
 pub loop-part-preserved : goal.loop-part-preserved
 loop-part-preserved c =
     let a = c.args in
     let l = c.loop-part in
-    let gs = generators_in a.generators a.sites a.targets.now a.orders.now in (
+    let gs = generators_in a.group.now.generators a.group.now.sites a.group.now.targets.now a.group.now.orders.now in (
       omega (arith, c.loop-part-test.true),
       c.part_of_all.auto.representatives ∙ l.invariant.1,
       c.part_of_all.auto.indices ∙ l.invariant.2,
-      subst (λ (q : ℕ). AllStand a.sites gs a.labels.now q (λ i. letters_in a.sites (row_at a.representatives.now i)) c.part_of_all.new.representatives c.part_of_all.new.indices) (sym (add-one l.part))
-          (c.part_of_all.ensures (λ i. letters_in a.sites (row_at a.representatives.now i)) l.invariant.3),
+      subst (λ (q : ℕ). AllStand a.group.now.sites gs a.labels.now q (λ i. letters_in a.group.now.sites (row_at a.representatives.now i)) c.part_of_all.new.representatives c.part_of_all.new.indices) (sym (add-one l.part))
+          (c.part_of_all.ensures (λ i. letters_in a.group.now.sites (row_at a.representatives.now i)) l.invariant.3),
     )
 
 pub returns : goal.returns

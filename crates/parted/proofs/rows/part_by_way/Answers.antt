@@ -2,13 +2,12 @@
 use Rattle.rotation.proofs.Packs.{fresh-length}
 use native.Mathlib.Omega.{arith}
 use mathlib.Core.Path.{refl, ◌∙◌}
-use borrow.Author.Rules.{rules}
 use Rattle.parted.proofs.rows.part_by_way.Goals as goal
 
-pub returns-then-k-eq0 : goal.returns-then-k-eq0
-returns-then-k-eq0 c = record {
+pub returns-then-ready-eq0 : goal.returns-then-ready-eq0
+returns-then-ready-eq0 c = record {
   none = (λ e. (refl, refl));
-  some = λ h i l. absurd (omega (arith, h, c.if-k-eq0.true));
+  some = λ h i l. absurd (omega (arith, h, c.if-ready-eq0.true));
 }
 
 pub part_rows-requires : goal.part_rows-requires
@@ -26,6 +25,6 @@ part_rows-requires c =
 
 pub returns : goal.returns
 returns c = record {
-  none = (λ e. absurd (c.if-k-eq0.false e));
+  none = (λ e. absurd (c.if-ready-eq0.false e));
   some = λ h. c.part_rows.ensures;
 }

@@ -1,22 +1,20 @@
 use Rattle.parted.proofs.Walking.{Walked, walked_none, walked_next}
 use Rattle.parts.proofs.Labelled.{spread-below}
 use Rattle.parted.proofs.Standing.{stepped_by}
-use Rattle.parted.specs.Steps.{site_of, Stepped}
+use Rattle.parted.specs.Steps.{site_of}
 use Rattle.row_lists.proofs.Rows.{part-row}
-use Rattle.packed.specs.Packed.{word_bits}
 use Rattle.row_lists.specs.Rows.{row_at}
 use Rattle.elements.proofs.Orbits.{part_length}
 use Rattle.elements.proofs.TableRows.{generators-length}
 use Rattle.elements.specs.HeldGroup.{generators_in}
 use Rattle.action.proofs.Index.{valid_positive}
-use Rattle.action.specs.Permutation.{Generator}
 use Rattle.pauli_word.specs.Bytes.{AcceptedWord}
 use Rattle.pauli_word.specs.Limits.{word_length}
 use lib.ListN.{length, get_or, take, drop, length-set}
 use lib.Dec.{eqb}
 use mathlib.Core.List.{List}
 use mathlib.Core.Path.{◌≡◌, refl, sym, ◌∙◌, subst}
-use Prim.Native.Nat.{ℕ, ◌+◌, ◌-◌, ◌*◌, ◌^◌, ◌≤◌, ◌<◌}
+use Prim.Native.Nat.{ℕ, ◌+◌, ◌-◌, ◌*◌, ◌≤◌, ◌<◌}
 use native.Mathlib.Omega.{arith}
 use Rattle.parted.proofs.rows.part_rows.Goals as goal
 
@@ -40,10 +38,10 @@ pub loop-i-init : goal.loop-i-init
 loop-i-init c = (omega arith, refl, walked_none _ c.args.representatives.now c.args.indices.now)
 
 pub overflow_mul-at : goal.overflow_mul-at
-overflow_mul-at c = omega (arith, room c.loop-i.invariant.2 c.loop-i-test.true c.requires.representatives_len)
+overflow_mul-at c = omega (arith, room c.loop-i.invariant.2 (omega (arith, c.loop-i.auto.indices)) c.requires.representatives_len)
 
 pub overflow_add-end : goal.overflow_add-end
-overflow_add-end c = omega (arith, room c.loop-i.invariant.2 c.loop-i-test.true c.requires.representatives_len)
+overflow_add-end c = omega (arith, room c.loop-i.invariant.2 (omega (arith, c.loop-i.auto.indices)) c.requires.representatives_len)
 
 pub slice_bounds-row-count : goal.slice_bounds-row-count
 slice_bounds-row-count c = omega arith
@@ -52,19 +50,19 @@ pub slice_bounds-row-start : goal.slice_bounds-row-start
 slice_bounds-row-start c = omega arith
 
 pub slice_bounds-row-end : goal.slice_bounds-row-end
-slice_bounds-row-end c = omega (arith, room c.loop-i.invariant.2 c.loop-i-test.true c.requires.representatives_len)
+slice_bounds-row-end c = omega (arith, room c.loop-i.invariant.2 (omega (arith, c.loop-i.auto.indices)) c.requires.representatives_len)
 
 pub least_part-back-requires : goal.least_part-back-requires
 least_part-back-requires c =
     let w = c.loop-i.invariant.2 in
-    let h = c.loop-i-test.true in
+    let h : c.loop-i.i < length c.loop-i.indices = omega (arith, c.loop-i.auto.indices) in
     let e = c.requires.representatives_len in
     let q = c.requires.numbering in record {
       tables = c.requires.tables_2;
       found = c.requires.found;
       order_value = c.requires.order_value;
       numbering = (q.0, q.1);
-      accepted_word = (subst (AcceptedWord c.args.sites) (sym (same_row w h e)) (c.requires.by_index c.loop-i.i (row_below w h e)).0, c.loop-i.invariant.1 ∙ q.2);
+      accepted_word = (subst (AcceptedWord c.args.group.now.sites) (sym (same_row w h e)) (c.requires.by_index c.loop-i.i (row_below w h e)).0, c.loop-i.invariant.1 ∙ q.2);
     }
 
 pub spread-whole-requires : goal.spread-whole-requires
@@ -75,7 +73,7 @@ spread-whole-requires c =
     }
 
 pub offset_bounds-indices-i : goal.offset_bounds-indices-i
-offset_bounds-indices-i c = omega (arith, room c.loop-i.invariant.2 c.loop-i-test.true c.requires.representatives_len)
+offset_bounds-indices-i c = omega (arith, room c.loop-i.invariant.2 (omega (arith, c.loop-i.auto.indices)) c.requires.representatives_len)
 
 pub bounds-indices-i : goal.bounds-indices-i
 bounds-indices-i c = omega (arith, c.loop-i-test.true)
@@ -83,39 +81,33 @@ bounds-indices-i c = omega (arith, c.loop-i-test.true)
 pub overflow_add-indices : goal.overflow_add-indices
 overflow_add-indices c =
     let w = c.loop-i.invariant.2 in
-    let h = c.loop-i-test.true in
+    let h : c.loop-i.i < length c.loop-i.indices = omega (arith, c.loop-i.auto.indices) in
     let e = c.requires.representatives_len in
     let (t, few) = c.requires.tables in
-    let gs = generators_in c.args.generators c.args.sites c.args.targets.now c.args.orders.now in
+    let gs = generators_in c.args.group.now.generators c.args.group.now.sites c.args.group.now.targets.now c.args.group.now.orders.now in
     let own = spread-below (λ l. eqb l c.args.part) c.args.labels.now gs (few ∙ sym (generators-length t)) (valid_positive t.valid) c.least_part-back.result in
     omega (arith, same_index w h e, (c.requires.by_index c.loop-i.i (row_below w h e)).1, t.small, c.spread-whole.ensures, own)
 
 pub offset_bounds-indices-i-in-loop-i : goal.offset_bounds-indices-i-in-loop-i
-offset_bounds-indices-i-in-loop-i c = omega (arith, room c.loop-i.invariant.2 c.loop-i-test.true c.requires.representatives_len)
+offset_bounds-indices-i-in-loop-i c = omega (arith, room c.loop-i.invariant.2 (omega (arith, c.loop-i.auto.indices)) c.requires.representatives_len)
 
 pub bounds-indices-i-in-loop-i : goal.bounds-indices-i-in-loop-i
 bounds-indices-i-in-loop-i c = omega (arith, c.loop-i-test.true)
-
-pub overflow_add-i : goal.overflow_add-i
-overflow_add-i c = omega (arith, room c.loop-i.invariant.2 c.loop-i-test.true c.requires.representatives_len)
-
-pub loop-i-smaller : goal.loop-i-smaller
-loop-i-smaller c = simp length-set (omega (arith, c.loop-i-test.true))
 
 pub loop-i-preserved : goal.loop-i-preserved
 loop-i-preserved c =
     let a = c.args in
     let l = c.loop-i in
     let w = l.invariant.2 in
-    let h = c.loop-i-test.true in
+    let h : c.loop-i.i < length c.loop-i.indices = omega (arith, c.loop-i.auto.indices) in
     let e = c.requires.representatives_len in
-    let gs = generators_in a.generators a.sites a.targets.now a.orders.now in
-    let hs = generators_in a.k a.m a.own_targets.now a.own_orders.now in (
+    let gs = generators_in a.group.now.generators a.group.now.sites a.group.now.targets.now a.group.now.orders.now in
+    let hs = generators_in a.own_group.now.generators a.own_group.now.sites a.own_group.now.targets.now a.own_group.now.orders.now in (
       simp length-set (omega (arith, c.loop-i-test.true)),
       c.least_part-back.auto.left ∙ l.invariant.1,
       walked_next _ w h (room w h e) c.least_part-back.new.row
           (c.least_part-back.auto.row ∙ part_length word_length l.i l.representatives (room w h e)) _
-          (stepped_by a.sites a.m (site_of a.table.now) hs gs a.labels.now a.part (same_row w h e) (same_index w h e) c.least_part-back.ensures.index c.spread-whole.ensures c.least_part-back.ensures.word),
+          (stepped_by a.group.now.sites a.own_group.now.sites (site_of a.table.now) hs gs a.labels.now a.part (same_row w h e) (same_index w h e) c.least_part-back.ensures.index c.spread-whole.ensures c.least_part-back.ensures.word),
     )
 
 pub returns : goal.returns

@@ -1,10 +1,5 @@
 -- `least::by_grid` meets its contract: there is room for the planes that the sites use.
-use borrow.Author.Rules.{rules}
-use mathlib.Core.Path.{◌≡◌, refl, sym, ap, ◌∙◌}
-use native.Mathlib.Omega.{arith}
-use lib.ListN.{length}
-use Rattle.pauli_word.specs.Bytes.{letters_in, bytes_of}
-use Rattle.elements.specs.HeldGroup.{generators_in}
+use mathlib.Core.Path.{refl}
 use Rattle.rotation.proofs.Packs.{fresh-length}
 use Rattle.paths.proofs.least.by_grid.Goals as goal
 

@@ -1,7 +1,6 @@
 -- `least::by_many` meets its contract: where refining stopped before its end the word is moved to those left, and else those left lead.
 use mathlib.Core.Path.{sym, ◌∙◌}
 use Rattle.grid.proofs.Leads.{staged_leads, staged_among}
-use borrow.Author.Rules.{rules}
 use Rattle.paths.proofs.least.by_many.Goals as goal
 
 pub when_tired-requires : goal.when_tired-requires

@@ -1,5 +1,4 @@
 -- `least::by_stage` meets its contract: one candidate alone, or as where there are more.
-use borrow.Author.Rules.{rules}
 use Rattle.paths.proofs.least.by_stage.Goals as goal
 
 pub by_one-requires : goal.by_one-requires

@@ -1,6 +1,5 @@
 -- `least::in_planes` meets its contract: the word in planes, the candidates that refining leaves, and the least word by where it stopped.
 use mathlib.Core.Path.{sym, ◌∙◌}
-use borrow.Author.Rules.{rules}
 use Rattle.paths.proofs.least.in_planes.Goals as goal
 
 pub refine-stage-requires : goal.refine-stage-requires

@@ -1,10 +1,4 @@
 -- `least::least_into` meets its contract, path by path.
-use borrow.Author.Rules.{rules}
-use mathlib.Core.Path.{◌≡◌, refl, sym, ap, ◌∙◌}
-use native.Mathlib.Omega.{arith}
-use lib.ListN.{length}
-use Rattle.pauli_word.specs.Bytes.{letters_in, bytes_of}
-use Rattle.elements.specs.HeldGroup.{generators_in}
 use Rattle.paths.proofs.least.least_into.Goals as goal
 
 pub by_grid-requires : goal.by_grid-requires

@@ -1,11 +1,6 @@
 -- `least::when_tired` meets its contract: by the least rotation where one generator shifts by 1 and its order is a block, and by moving the word else.
-use borrow.Author.Rules.{rules}
 use Prim.Native.Nat.{◌+◌}
-use mathlib.Core.Path.{◌≡◌, refl, sym, ap, ◌∙◌}
 use native.Mathlib.Omega.{arith}
-use lib.ListN.{length}
-use Rattle.pauli_word.specs.Bytes.{letters_in, bytes_of}
-use Rattle.elements.specs.HeldGroup.{generators_in}
 use borrow.Author.Tests.{eqb-true}
 use lib.ListN.{get_or}
 use Rattle.paths.proofs.Dispatch.{one-rotates, one_block}
@@ -21,20 +16,20 @@ by_turns-requires c =
     let t = rw one at c.requires.tables in
     let shapes = rw one at c.requires.shapes in
     let o = rw one at c.requires.order_value in
-    let whole = eqb-true c.args.order (1 + get_or c.args.rests.now 0 0) c.if-order-block.true-raw in record {
-      tables = t;
+    let whole = eqb-true c.args.order (1 + get_or c.args.shapes.now.rests 0 0) c.if-order-block.true-raw in record {
+      tables = c.requires.tables;
+      one = one;
       rotates = (one-rotates t shapes c.if-strides-eq1.true, one_block t shapes c.args.order whole o);
       accepted_word = c.requires.accepted_word.0;
       out_len = c.requires.out_len;
     }
 
 pub returns-then-order-block : goal.returns-then-order-block
-returns-then-order-block c =
-    let one = c.if-generators-eq1.true in record {
-      word = rw one c.by_turns.ensures.word;
-      index = rw one c.by_turns.ensures.index;
-      fixing = rw one (c.by_turns.ensures.fixing c.args.left.now);
-    }
+returns-then-order-block c = record {
+  word = c.by_turns.ensures.word;
+  index = c.by_turns.ensures.index;
+  fixing = c.by_turns.ensures.fixing c.args.left.now;
+}
 
 pub settle-requires : goal.settle-requires
 settle-requires c = record {

@@ -8,7 +8,6 @@ use Rattle.action.specs.Index.{digits}
 use Rattle.action.specs.Orbit.{stepped}
 use Rattle.elements.specs.HeldGroup.{generators_in}
 use Rattle.rotation.proofs.Packs.{own-length}
-use borrow.Author.Rules.{rules}
 use Rattle.paths.proofs.moves.advance_planes.Goals as goal
 
 pub advance-requires : goal.advance-requires
@@ -27,7 +26,7 @@ copy-requires c = ap length c.unpack_planes-moved.ensures ∙ encode-length plan
 
 pub returns : goal.returns
 returns c =
-    let gs = generators_in c.args.generators c.args.sites c.args.targets.now c.args.orders.now in
+    let gs = generators_in c.args.group.now.generators c.args.group.now.sites c.args.group.now.targets.now c.args.group.now.orders.now in
     c.copy.ensures
     ∙ c.unpack_planes-moved.ensures
     ∙ ap bytes_of (c.advance.ensures.letters ∙ ap (stepped gs (digits gs c.args.index)) c.pack_planes.ensures.letters)

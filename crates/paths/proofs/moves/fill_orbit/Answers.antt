@@ -1,7 +1,6 @@
-use Prim.Native.Nat.{◌-◌, ◌*◌, ◌≤◌}
-use mathlib.Core.Path.{◌≡◌, refl, sym, ap, ◌∙◌}
+use Prim.Native.Nat.{◌*◌, ◌≤◌}
+use mathlib.Core.Path.{◌≡◌, sym, ap, ◌∙◌}
 use native.Mathlib.Omega.{arith}
-use borrow.Author.Rules.{rules}
 use lib.ListN.{length}
 use Rattle.std.proofs.Common.{ℕ, List}
 use Rattle.pauli_word.specs.Limits.{word_length}
@@ -23,11 +22,11 @@ list_length k n order i targets orders word first list long h e = ap length e �
 pub words_in_use-m-requires : goal.words_in_use-m-requires
 words_in_use-m-requires c = c.requires.tables.sites
 
-pub find_masks-by_masks-requires : goal.find_masks-by_masks-requires
-find_masks-by_masks-requires c = record {
+pub find_masks-shapes-requires : goal.find_masks-shapes-requires
+find_masks-shapes-requires c = record {
   tables = c.requires.tables;
   sites_bound = c.words_in_use-m.ensures;
-  strides_len = (refl, refl, omega (arith, c.words_in_use-m.ensures.1));
+  masks_len = omega (arith, c.words_in_use-m.ensures.1);
 }
 
 pub copy-requires : goal.copy-requires
@@ -35,8 +34,8 @@ copy-requires c = c.requires.accepted_word.long
 
 pub loop-i-init : goal.loop-i-init
 loop-i-init c =
-    let gs = generators_in c.args.generators c.args.sites c.args.targets.now c.args.orders.now in
-    let w = letters_in c.args.sites c.args.word.now in
+    let gs = generators_in c.args.group.now.generators c.args.group.now.sites c.args.group.now.targets.now c.args.group.now.orders.now in
+    let w = letters_in c.args.group.now.sites c.args.word.now in
     (omega arith, c.copy.ensures ∙ walk_start c.requires.accepted_word gs, stored-start (λ j. reach gs j w) c.args.list.now)
 
 pub overflow_mul-at : goal.overflow_mul-at
@@ -57,36 +56,29 @@ pub slice_bounds-copy-start : goal.slice_bounds-copy-start
 slice_bounds-copy-start c = omega arith
 
 pub slice_bounds-copy-end-in-loop-i-2 : goal.slice_bounds-copy-end-in-loop-i-2
-slice_bounds-copy-end-in-loop-i-2 c = omega (arith, list_length c.args.generators c.args.sites c.args.order c.loop-i.i c.args.targets.now c.args.orders.now c.args.word.now c.args.list.now c.loop-i.list c.requires.list_len c.loop-i.invariant.0 c.loop-i.invariant.2, c.loop-i-test.true)
+slice_bounds-copy-end-in-loop-i-2 c = omega (arith, list_length c.args.group.now.generators c.args.group.now.sites c.args.order c.loop-i.i c.args.group.now.targets.now c.args.group.now.orders.now c.args.word.now c.args.list.now c.loop-i.list c.requires.list_len c.loop-i.invariant.0 c.loop-i.invariant.2, c.loop-i-test.true)
 
 pub copy-requires-in-loop-i : goal.copy-requires-in-loop-i
 copy-requires-in-loop-i c =
     let l = c.loop-i in
-    (here-accepted c.requires.tables c.requires.accepted_word c.loop-i.i c.loop-i.invariant.1).long ∙ sym (part_length word_length l.i l.list (omega (arith, list_length c.args.generators c.args.sites c.args.order c.loop-i.i c.args.targets.now c.args.orders.now c.args.word.now c.args.list.now c.loop-i.list c.requires.list_len c.loop-i.invariant.0 c.loop-i.invariant.2, c.loop-i-test.true)))
+    (here-accepted c.requires.tables c.requires.accepted_word c.loop-i.i c.loop-i.invariant.1).long ∙ sym (part_length word_length l.i l.list (omega (arith, list_length c.args.group.now.generators c.args.group.now.sites c.args.order c.loop-i.i c.args.group.now.targets.now c.args.group.now.orders.now c.args.word.now c.args.list.now c.loop-i.list c.requires.list_len c.loop-i.invariant.0 c.loop-i.invariant.2, c.loop-i-test.true)))
 
-pub slice_bounds-advance-end-in-loop-i-3 : goal.slice_bounds-advance-end-in-loop-i-3
-slice_bounds-advance-end-in-loop-i-3 c = sym (here-accepted c.requires.tables c.requires.accepted_word c.loop-i.i c.loop-i.invariant.1).long
+pub slice_bounds-advance-end-in-loop-i : goal.slice_bounds-advance-end-in-loop-i
+slice_bounds-advance-end-in-loop-i c = sym (here-accepted c.requires.tables c.requires.accepted_word c.loop-i.i c.loop-i.invariant.1).long
 
 pub advance-requires : goal.advance-requires
 advance-requires c = record {
   tables = c.requires.tables;
   sites_bound = c.words_in_use-m.ensures;
-  ready = c.find_masks-by_masks.ensures;
+  ready = c.find_masks-shapes.ensures;
   accepted_word = here-accepted c.requires.tables c.requires.accepted_word c.loop-i.i c.loop-i.invariant.1;
 }
-
-pub overflow_add-i : goal.overflow_add-i
-overflow_add-i c =
-    omega (arith, c.requires.tables.small, c.requires.order_value, c.loop-i-test.true)
-
-pub loop-i-smaller : goal.loop-i-smaller
-loop-i-smaller c = omega (arith, c.loop-i-test.true)
 
 pub loop-i-preserved : goal.loop-i-preserved
 loop-i-preserved c =
     let l = c.loop-i in
-    let gs = generators_in c.args.generators c.args.sites c.args.targets.now c.args.orders.now in
-    let w = letters_in c.args.sites c.args.word.now in (
+    let gs = generators_in c.args.group.now.generators c.args.group.now.sites c.args.group.now.targets.now c.args.group.now.orders.now in
+    let w = letters_in c.args.group.now.sites c.args.word.now in (
       omega (arith, c.loop-i-test.true),
       walk_next c.requires.tables w (decode-length c.requires.accepted_word) l.i l.invariant.1 c.advance.ensures,
       stored_next (λ j. reach gs j w) c.args.list.now l.list c.copy-in-loop-i.new.dst l.i l.invariant.2 (c.copy-in-loop-i.ensures ∙ l.invariant.1),
@@ -95,8 +87,8 @@ loop-i-preserved c =
 pub returns : goal.returns
 returns c =
     let l = c.loop-i in
-    let gs = generators_in c.args.generators c.args.sites c.args.targets.now c.args.orders.now in
-    let w = letters_in c.args.sites c.args.word.now in
+    let gs = generators_in c.args.group.now.generators c.args.group.now.sites c.args.group.now.targets.now c.args.group.now.orders.now in
+    let w = letters_in c.args.group.now.sites c.args.word.now in
     l.invariant.2
     ∙ stored-end (λ j. reach gs j w) c.args.list.now l.i c.args.order c.requires.list_len c.loop-i-test.false l.invariant.0
     ∙ ap encode_all (ap (entries gs w) c.requires.order_value ∙ entries_all gs w)

@@ -1,8 +1,7 @@
 -- `calls::both_checked` meets its contract: each return is reached by the tests that decide it.
 use mathlib.Core.Path.{◌≡◌, sym, ◌∙◌}
-use mathlib.Core.Bool.{true, false}
+use mathlib.Core.Bool.{true}
 use lib.ListN.{length}
-use borrow.Author.Rules.{rules}
 use borrow.Author.Tests.{not-true, not-false}
 use Rattle.pauli_word.specs.Calls.{either_length}
 use Rattle.pauli_word.proofs.Checks.{either-told, compare-many, compare-first, compare-second, compare-old, compare-old-second, compare-left}

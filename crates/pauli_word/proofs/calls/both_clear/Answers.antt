@@ -1,6 +1,5 @@
 -- `calls::both_clear` meets its contract: each return is reached by the tests that decide it.
 use mathlib.Core.Path.{sym, ◌∙◌}
-use borrow.Author.Rules.{rules}
 use Rattle.pauli_word.proofs.calls.both_clear.Goals as goal
 
 pub returns-then-clear_above-2 : goal.returns-then-clear_above-2

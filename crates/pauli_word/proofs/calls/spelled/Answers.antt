@@ -1,13 +1,12 @@
-use Prim.Native.Nat.{ℕ, ◌-◌, ◌≤◌}
+use Prim.Native.Nat.{ℕ, ◌-◌}
 use mathlib.Core.Path.{◌≡◌, refl, ◌∙◌, ap₂}
 use mathlib.Core.List.{List, ◌++◌}
 use native.Mathlib.Omega.{arith}
-use lib.ListN.{take, set, replicate}
+use lib.ListN.{set, replicate}
 use Rattle.pauli_word.specs.Limits.{max_sites}
 use Rattle.pauli_word.specs.Word.{Word}
 use Rattle.pauli_word.specs.Text.{spell}
 use Rattle.pauli_word.proofs.Sites.{spell_next, all_sites}
-use Rattle.pauli_word.specs.Bytes.{letters_in}
 use Rattle.pauli_word.proofs.calls.spelled.Goals as goal
 
 pub loop-q-init : goal.loop-q-init
@@ -18,12 +17,6 @@ site_at-s-requires c = c.requires.long
 
 pub bounds-text-q : goal.bounds-text-q
 bounds-text-q c = omega (arith, c.requires.sites)
-
-pub overflow_add-q : goal.overflow_add-q
-overflow_add-q c = omega (arith, c.requires.sites)
-
-pub loop-q-smaller : goal.loop-q-smaller
-loop-q-smaller c = omega arith
 
 pub loop-q-preserved : goal.loop-q-preserved
 loop-q-preserved c =

@@ -1,11 +1,8 @@
-use Prim.Native.Nat.{ℕ, ◌+◌, ◌-◌, ◌≤◌}
+use Prim.Native.Nat.{ℕ, ◌+◌}
 use mathlib.Core.Path.{◌≡◌, refl, sym, ◌∙◌, ap}
-use mathlib.Core.Logic.{⊎_elim}
 use native.Mathlib.Omega.{arith}
-use lib.ListN.{take}
 use Rattle.pauli_word.specs.Word.{letter_of, letter_weight, weight}
 use Rattle.pauli_word.proofs.Sites.{letter-counts, letter-passed, letter_weight_small, weigh-next, all_sites}
-use Rattle.pauli_word.specs.Bytes.{letters_in}
 use Rattle.pauli_word.proofs.calls.weighed.Goals as goal
 use Rattle.pauli_word.proofs.calls.weighed.Goals.{then-spelled-ne73, else-spelled-ne73}
 use Rattle.pauli_word.proofs.calls.weighed.Lts as lts
@@ -24,12 +21,6 @@ site_at-s-requires c = c.requires.long
 
 pub overflow_add-sum : goal.overflow_add-sum
 overflow_add-sum c = omega (arith, c.requires.sites)
-
-pub overflow_add-q : goal.overflow_add-q
-overflow_add-q c = omega (arith, c.requires.sites)
-
-pub loop-q-smaller : goal.loop-q-smaller
-loop-q-smaller c = omega arith
 
 -- a site adds its letter's weight
 added :

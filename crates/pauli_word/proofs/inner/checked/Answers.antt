@@ -1,10 +1,9 @@
 -- `inner::checked` meets its contract: each return is reached by the tests that decide it.
 use mathlib.Core.Path.{◌≡◌, sym, ◌∙◌}
-use mathlib.Core.Bool.{true, false}
-use borrow.Author.Rules.{rules}
+use mathlib.Core.Bool.{true}
 use borrow.Author.Tests.{not-true, not-false}
 use lib.ListN.{length}
-use Rattle.pauli_word.specs.Calls.{either_length, past_old}
+use Rattle.pauli_word.specs.Calls.{either_length}
 use Rattle.pauli_word.proofs.Checks.{either-told, too-many-sites, other_length, past-old, bit-above, passes}
 use Rattle.pauli_word.proofs.inner.checked.Goals as goal
 use Rattle.pauli_word.proofs.inner.checked.Lts as lts

@@ -4,7 +4,6 @@ use mathlib.Core.Bool.{Bool, ◌&&◌}
 use native.Mathlib.Nat.{sub-zero}
 use Prim.Native.Nat.{ℕ, ◌-◌, ◌/◌}
 use lib.ListN.{length, take, drop}
-use borrow.Author.Rules.{rules}
 use Rattle.pauli_word.specs.Bytes.{clear_from}
 use Rattle.pauli_word.proofs.Words.{rest_part}
 use Rattle.pauli_word.proofs.Forms.{full-clear}

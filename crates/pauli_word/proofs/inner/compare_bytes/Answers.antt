@@ -1,12 +1,6 @@
-use Prim.Native.Nat.{◌-◌, ◌≤◌, min}
-use mathlib.Core.Path.{◌≡◌, refl, sym, ◌∙◌}
+use mathlib.Core.Path.{refl, sym, ◌∙◌}
 use native.Mathlib.Omega.{arith}
-use borrow.Author.Rules.{rules}
-use lib.ListN.{length, drop}
-use Rattle.pauli_word.specs.Bytes.{plane_bits}
-use Rattle.pauli_word.specs.Calls.{order_of_bits}
 use Rattle.pauli_word.proofs.WordOrder.{byte-apart, byte-same, bytes_end}
-use Rattle.outcome.specs.Outcome.{given}
 use Rattle.pauli_word.proofs.inner.compare_bytes.Goals as goal
 
 pub loop-i-init : goal.loop-i-init
@@ -27,12 +21,6 @@ returns-then-x-y c =
       order = c.compare_byte.ensures
           ∙ sym (l.invariant.2 ∙ byte-apart a.a.now a.b.now l.i (omega arith) (omega arith) xs.fits ys.fits c.if-x-y.true);
     }
-
-pub overflow_add-i : goal.overflow_add-i
-overflow_add-i c = omega arith
-
-pub loop-i-smaller : goal.loop-i-smaller
-loop-i-smaller c = omega arith
 
 pub loop-i-preserved : goal.loop-i-preserved
 loop-i-preserved c =

@@ -1,6 +1,5 @@
 -- `inner::in_full` meets its contract: half of the bytes are one plane, and the others the other (`full-spread`).
 use mathlib.Core.Path.{refl, sym, ◌∙◌}
-use borrow.Author.Rules.{rules}
 use Rattle.pauli_word.proofs.Forms.{half-few, half-long, full-spread}
 use Rattle.pauli_word.proofs.inner.in_full.Goals as goal
 

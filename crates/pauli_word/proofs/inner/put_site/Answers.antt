@@ -3,8 +3,6 @@ use mathlib.Core.Path.{sym, ◌∙◌}
 use native.Mathlib.Omega.{arith}
 use lib.Seq.{length-take-le}
 use Rattle.pauli_word.proofs.Words.{site-stored}
-use borrow.Author.Rules.{rules}
-use Rattle.outcome.specs.Outcome.{given}
 use Rattle.pauli_word.specs.Limits.{plane_length}
 use Rattle.pauli_word.proofs.inner.put_site.Goals as goal
 

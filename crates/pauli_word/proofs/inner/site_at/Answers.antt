@@ -8,7 +8,6 @@ use lib.Seq.{length-take-le}
 use mathlib.Core.List.{List}
 use Rattle.pauli_word.specs.Bytes.{plane_bits}
 use Rattle.pauli_word.proofs.Words.{rest_part}
-use borrow.Author.Rules.{rules}
 use Rattle.pauli_word.specs.Limits.{plane_length}
 use Rattle.pauli_word.proofs.inner.site_at.Goals as goal
 

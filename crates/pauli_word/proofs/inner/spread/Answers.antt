@@ -1,12 +1,11 @@
 -- `inner::spread` meets its contract: the two planes, each stored over zeros, are the word in full (`both_stored`).
 use Prim.Native.Nat.{ℕ, ◌-◌}
-use mathlib.Core.Path.{◌≡◌, sym, ap, ap₂, ◌∙◌}
+use mathlib.Core.Path.{◌≡◌, ap, ap₂, ◌∙◌}
 use mathlib.Core.List.{List, ◌++◌}
 use native.Mathlib.Omega.{arith}
 use native.Mathlib.Nat.{sub-zero}
 use lib.ListN.{length, take, length-drop, length-replicate}
 use lib.Seq.{length-take-le}
-use borrow.Author.Rules.{rules}
 use Rattle.pauli_word.specs.Limits.{plane_length, word_length}
 use Rattle.pauli_word.specs.Bytes.{filled_up}
 use Rattle.pauli_word.proofs.Forms.{one-long, both_stored}

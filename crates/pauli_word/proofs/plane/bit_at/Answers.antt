@@ -1,7 +1,6 @@
 -- `plane::bit_at` meets its contract: the digit that is read is the bit of the site.
 use mathlib.Core.Path.{sym}
 use Rattle.pauli_word.proofs.Planes.{plane_bits-at, plane_bits_past}
-use borrow.Author.Rules.{rules}
 use Rattle.pauli_word.proofs.plane.bit_at.Goals as goal
 
 pub returns-then-at-plane : goal.returns-then-at-plane

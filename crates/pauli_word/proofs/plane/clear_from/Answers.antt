@@ -1,10 +1,5 @@
-use Prim.Native.Nat.{◌≤◌, ◌-◌}
-use mathlib.Core.Path.{◌≡◌, sym, ◌∙◌}
-use mathlib.Core.Bool.{◌&&◌}
+use mathlib.Core.Path.{sym, ◌∙◌}
 use native.Mathlib.Omega.{arith}
-use lib.Dec.{eqb}
-use lib.ListN.{length, drop}
-use Rattle.pauli_word.specs.Bytes.{plane_bits, clear, clear_from}
 use Rattle.pauli_word.proofs.Planes.{bytes_of_lem, clear_from_past, clear_from-start, clear-more, clear-end}
 use Rattle.pauli_word.proofs.plane.clear_from.Goals as goal
 
@@ -20,9 +15,6 @@ overflow_cast-any c = omega arith
 pub overflow_shr-any : goal.overflow_shr-any
 overflow_shr-any c = omega arith
 
-pub overflow_add-j : goal.overflow_add-j
-overflow_add-j c = omega arith
-
 pub loop-j-init : goal.loop-j-init
 loop-j-init c =
     let a = c.args in
@@ -30,12 +22,6 @@ loop-j-init c =
 
 pub bounds-plane-j : goal.bounds-plane-j
 bounds-plane-j c = omega arith
-
-pub overflow_add-j-in-loop-j : goal.overflow_add-j-in-loop-j
-overflow_add-j-in-loop-j c = omega arith
-
-pub loop-j-smaller : goal.loop-j-smaller
-loop-j-smaller c = omega arith
 
 pub loop-j-preserved : goal.loop-j-preserved
 loop-j-preserved c =

@@ -1,8 +1,5 @@
-use Prim.Native.Nat.{◌-◌, ◌≤◌}
-use mathlib.Core.Path.{◌≡◌, refl, sym, ◌∙◌}
+use mathlib.Core.Path.{refl, sym, ◌∙◌}
 use native.Mathlib.Omega.{arith}
-use Rattle.pauli_word.specs.Bytes.{low_bits}
-use Rattle.pauli_word.specs.Calls.{order_of_bits}
 use Rattle.pauli_word.proofs.WordOrder.{digit-less, digit-greater, digit-same, digits_end}
 use Rattle.pauli_word.proofs.plane.compare_byte.Goals as goal
 
@@ -10,19 +7,13 @@ pub loop-k-init : goal.loop-k-init
 loop-k-init c = (omega arith, refl)
 
 pub returns-then-a-b : goal.returns-then-a-b
-returns-then-a-b c = let l = c.loop-k in sym (l.invariant.1 ∙ digit-less l.k l.a l.b c.loop-k-test.true c.if-a-b.true)
+returns-then-a-b c = let l = c.loop-k in sym (l.invariant.1 ∙ digit-less l._k l.a l.b c.loop-k-test.true c.if-a-b.true)
 
 pub returns-then-b-a : goal.returns-then-b-a
-returns-then-b-a c = let l = c.loop-k in sym (l.invariant.1 ∙ digit-greater l.k l.a l.b c.loop-k-test.true c.if-b-a.true)
-
-pub overflow_add-k : goal.overflow_add-k
-overflow_add-k c = omega arith
-
-pub loop-k-smaller : goal.loop-k-smaller
-loop-k-smaller c = omega arith
+returns-then-b-a c = let l = c.loop-k in sym (l.invariant.1 ∙ digit-greater l._k l.a l.b c.loop-k-test.true c.if-b-a.true)
 
 pub loop-k-preserved : goal.loop-k-preserved
-loop-k-preserved c = let l = c.loop-k in (omega arith, l.invariant.1 ∙ digit-same l.k l.a l.b c.loop-k-test.true c.if-a-b.false c.if-b-a.false)
+loop-k-preserved c = let l = c.loop-k in (omega arith, l.invariant.1 ∙ digit-same l._k l.a l.b c.loop-k-test.true c.if-a-b.false c.if-b-a.false)
 
 pub returns : goal.returns
-returns c = let l = c.loop-k in sym (l.invariant.1 ∙ digits_end l.k l.a l.b c.loop-k-test.false)
+returns c = let l = c.loop-k in sym (l.invariant.1 ∙ digits_end l._k l.a l.b c.loop-k-test.false)

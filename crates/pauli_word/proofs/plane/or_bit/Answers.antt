@@ -4,8 +4,6 @@ use Prim.Native.Nat.{◌/◌}
 use lib.ListN.{get_or}
 use Rattle.pauli_word.specs.Bytes.{plane_bits}
 use Rattle.pauli_word.proofs.Planes.{or-sets, or-set-already, or_nothing, or_past, or-fits}
-use borrow.Author.Rules.{rules}
-use Rattle.outcome.specs.Outcome.{given}
 use Rattle.pauli_word.proofs.plane.or_bit.Goals as goal
 
 pub overflow_add-plane : goal.overflow_add-plane

@@ -1,19 +1,9 @@
-use Prim.Native.Nat.{ℕ, ◌+◌, ◌*◌, ◌-◌, ◌≤◌, ◌<◌}
-use mathlib.Core.Path.{◌≡◌, refl, sym, ap, ◌∙◌}
+use mathlib.Core.Path.{refl, sym, ap, ◌∙◌}
 use native.Mathlib.Omega.{arith}
 use borrow.Author.Count.{below_more}
-use lib.ListN.{get_or}
-use Rattle.outcome.specs.declared.Verdict.TheVariants as Verdict
-use Rattle.outcome.specs.Outcome.{outcome_of_verdict, alone}
-use Rattle.pauli_word.specs.Limits.{max_sites}
-use Rattle.permutation.proofs.Commuting.{pairs_from, pair_from, pairs-none, pairs-open, pair-none, pair-apart, pair-next, SameAt, rows-commute, rows_apart}
+use Rattle.outcome.specs.Outcome.{outcome_of, alone}
+use Rattle.permutation.proofs.Commuting.{pairs-none, pairs-open, pair-none, pair-apart, pair-next, SameAt, rows-commute, rows_apart}
 use Rattle.permutation.proofs.inner.first_pair.Goals as goal
-use Rattle.permutation.proofs.inner.first_pair.Lts as lts
-use Rattle.permutation.proofs.inner.first_pair.Tie as tie
-use Rattle.permutation.proofs.inner.first_pair.Reads as reads
-
-abbrev ctx-In-loop2 : Type 0
-ctx-In-loop2 = lts.In-loop2 reads.Pre reads.Post goal.the-invariant-loop-q goal.the-decreases-loop-q goal.the-invariant-loop-right goal.the-decreases-loop-right goal.the-invariant-pairs goal.the-decreases-pairs tie.handed_clauses
 
 pub pairs-init : goal.pairs-init
 pairs-init c = (refl, omega arith, refl)
@@ -22,22 +12,10 @@ pub loop-right-init : goal.loop-right-init
 loop-right-init c =
     let a = c.args in
     let l = c.pairs in
-    (l.invariant.0, omega arith, omega arith, pairs-open a.generators a.sites a.targets.now l.left c.pairs-test.true)
+    (l.invariant.0, omega arith, omega arith, pairs-open a.group.now.generators a.group.now.sites a.group.now.targets.now l.left c.pairs-test.true)
 
 pub loop-q-init : goal.loop-q-init
 loop-q-init c = (c.loop-right.invariant.0, omega arith, λ p h. absurd (omega arith))
-
--- the targets of the two generators at site q are sites
-targets-below :
-    (c : ctx-In-loop2)
-    → (get_or c.args.targets.now (max_sites * c.pairs.left + c.loop-q.q) 0 < c.args.sites)
-    × (get_or c.args.targets.now (max_sites * c.loop-right.right + c.loop-q.q) 0 < c.args.sites)
-targets-below c =
-    let below = c.requires.by_index in
-    let q = c.loop-q.q in (
-      below c.pairs.left q c.pairs-test.true c.loop-q-test.true,
-      below c.loop-right.right q c.loop-right-test.true c.loop-q-test.true,
-    )
 
 pub overflow_mul-l : goal.overflow_mul-l
 overflow_mul-l c = omega arith
@@ -67,25 +45,25 @@ pub overflow_mul-left : goal.overflow_mul-left
 overflow_mul-left c = omega arith
 
 pub overflow_add-left : goal.overflow_add-left
-overflow_add-left c = omega (arith, targets-below c.before.before.before)
+overflow_add-left c = omega (arith, c.requires.by_index c.loop-right.right c.loop-q.q c.loop-right-test.true c.loop-q-test.true)
 
 pub offset_bounds-targets-left-in-loop-q : goal.offset_bounds-targets-left-in-loop-q
-offset_bounds-targets-left-in-loop-q c = omega (arith, targets-below c.before.before.before)
+offset_bounds-targets-left-in-loop-q c = omega (arith, c.requires.by_index c.loop-right.right c.loop-q.q c.loop-right-test.true c.loop-q-test.true)
 
 pub bounds-targets-left-in-loop-q : goal.bounds-targets-left-in-loop-q
-bounds-targets-left-in-loop-q c = omega (arith, targets-below c.before.before.before.before)
+bounds-targets-left-in-loop-q c = omega (arith, c.requires.by_index c.loop-right.right c.loop-q.q c.loop-right-test.true c.loop-q-test.true)
 
 pub overflow_mul-right : goal.overflow_mul-right
 overflow_mul-right c = omega arith
 
 pub overflow_add-right : goal.overflow_add-right
-overflow_add-right c = omega (arith, targets-below c.before.before.before.before)
+overflow_add-right c = omega (arith, c.requires.by_index c.pairs.left c.loop-q.q c.pairs-test.true c.loop-q-test.true)
 
 pub offset_bounds-targets-right-in-loop-q : goal.offset_bounds-targets-right-in-loop-q
-offset_bounds-targets-right-in-loop-q c = omega (arith, targets-below c.before.before.before.before)
+offset_bounds-targets-right-in-loop-q c = omega (arith, c.requires.by_index c.pairs.left c.loop-q.q c.pairs-test.true c.loop-q-test.true)
 
 pub bounds-targets-right-in-loop-q : goal.bounds-targets-right-in-loop-q
-bounds-targets-right-in-loop-q c = omega (arith, targets-below c.before.before.before.before.before)
+bounds-targets-right-in-loop-q c = omega (arith, c.requires.by_index c.pairs.left c.loop-q.q c.pairs-test.true c.loop-q-test.true)
 
 pub loop-q-smaller : goal.loop-q-smaller
 loop-q-smaller c = omega arith
@@ -95,7 +73,7 @@ loop-q-preserved c =
     let l = c.loop-q in
     let left = c.pairs.left in
     let right = c.loop-right.right in
-    (l.invariant.0, omega arith, below_more (SameAt c.args.targets.now left right) l.q l.invariant.2 c.if-targets-left.false)
+    (l.invariant.0, omega arith, below_more (SameAt c.args.group.now.targets.now left right) l.q l.invariant.2 c.if-targets-left.false)
 
 pub loop-right-smaller : goal.loop-right-smaller
 loop-right-smaller c = omega arith
@@ -110,8 +88,8 @@ loop-right-preserved c =
       omega arith,
       omega arith,
       l.invariant.3
-          ∙ pair-next a.generators a.sites a.targets.now left l.right c.loop-right-test.true
-          (rows-commute a.sites a.targets.now left l.right
+          ∙ pair-next a.group.now.generators a.group.now.sites a.group.now.targets.now left l.right c.loop-right-test.true
+          (rows-commute a.group.now.sites a.group.now.targets.now left l.right
           (λ q. c.requires.by_index left q (omega arith)) (λ q. c.requires.by_index l.right q (omega arith))
           (λ q h. same.invariant.2 q (omega arith))),
     )
@@ -126,14 +104,14 @@ pairs-preserved c =
     let l = c.loop-right in (
       l.invariant.0,
       omega arith,
-      p.invariant.2 ∙ l.invariant.3 ∙ pair-none a.generators a.sites a.targets.now p.left l.right c.loop-right-test.false,
+      p.invariant.2 ∙ l.invariant.3 ∙ pair-none a.group.now.generators a.group.now.sites a.group.now.targets.now p.left l.right c.loop-right-test.false,
     )
 
 pub returns-after-pairs : goal.returns-after-pairs
 returns-after-pairs c =
     let a = c.args in
     let p = c.pairs in
-    ap outcome_of_verdict p.invariant.0 ∙ sym (ap alone (p.invariant.2 ∙ pairs-none a.generators a.sites a.targets.now p.left c.pairs-test.false))
+    ap outcome_of p.invariant.0 ∙ sym (ap alone (p.invariant.2 ∙ pairs-none a.group.now.generators a.group.now.sites a.group.now.targets.now p.left c.pairs-test.false))
 
 pub returns-then-targets-left : goal.returns-then-targets-left
 returns-then-targets-left c =
@@ -144,7 +122,7 @@ returns-then-targets-left c =
     (ap alone
     (p.invariant.2
     ∙ l.invariant.3
-    ∙ pair-apart a.generators a.sites a.targets.now p.left l.right c.loop-right-test.true
-    (rows_apart a.sites a.targets.now p.left l.right
+    ∙ pair-apart a.group.now.generators a.group.now.sites a.group.now.targets.now p.left l.right c.loop-right-test.true
+    (rows_apart a.group.now.sites a.group.now.targets.now p.left l.right
     (λ q. c.requires.by_index p.left q (omega arith)) (λ q. c.requires.by_index l.right q (omega arith))
     c.loop-q.q c.loop-q-test.true c.if-targets-left.true)))

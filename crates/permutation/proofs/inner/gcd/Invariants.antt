@@ -1,9 +1,6 @@
 -- `inner::gcd` meets its contract. The loop's invariant: a and b have the same greatest common divisor as x and y.
-use mathlib.Core.Path.{◌≡◌, refl, sym, ap, ◌∙◌}
-use native.Mathlib.Omega.{arith}
-use native.Mathlib.Nat.{mod-lt}
+use mathlib.Core.Path.{◌≡◌}
 use Rattle.action.specs.Arithmetic.{gcd}
-use Rattle.permutation.proofs.Divisors.{gcd_step, gcd_end}
 use Rattle.permutation.proofs.inner.gcd.Given as goal
 
 abbrev pub invariant-loop-y : goal.invariant-loop-y

@@ -1,11 +1,10 @@
-use Prim.Native.Nat.{ℕ, ◌*◌, ◌-◌, ◌≤◌}
+use Prim.Native.Nat.{ℕ, ◌*◌}
 use mathlib.Core.Path.{◌≡◌, refl, sym, ap, ◌∙◌}
 use native.Mathlib.Nat.{le-div_iff_mul-le}
 use native.Mathlib.Numerals.{add-one}
 use native.Mathlib.Omega.{arith}
 use lib.ListN.{take, get_or}
 use Rattle.outcome.specs.Outcome.{answer}
-use Rattle.permutation.specs.Limits.{max_wide}
 use Rattle.action.specs.Arithmetic.{product}
 use Rattle.permutation.proofs.Products.{product-next, product-overflow, product_fits}
 use Rattle.permutation.proofs.inner.group_order.Goals as goal
@@ -34,12 +33,6 @@ pub overflow_mul-order : goal.overflow_mul-order
 overflow_mul-order c =
     let l = c.loop-g in
     omega (arith, (le-div_iff_mul-le (c.requires.by_index l.g c.loop-g-test.true)).0 c.if-o-order.false)
-
-pub overflow_add-g : goal.overflow_add-g
-overflow_add-g c = omega arith
-
-pub loop-g-smaller : goal.loop-g-smaller
-loop-g-smaller c = omega arith
 
 pub loop-g-preserved : goal.loop-g-preserved
 loop-g-preserved c =

@@ -2,7 +2,6 @@
 use Prim.Native.Nat.{ℕ, ◌/◌, ◌*◌}
 use mathlib.Core.Path.{◌≡◌, ap, ◌∙◌}
 use native.Mathlib.Omega.{arith}
-use borrow.Author.Rules.{rules}
 use Rattle.action.specs.Arithmetic.{gcd, lcm}
 use Rattle.permutation.proofs.Divisors.{gcd_comm, gcd-positive, lcm_small}
 use Rattle.permutation.proofs.inner.lcm.Goals as goal

@@ -1,14 +1,13 @@
 use Prim.Native.Nat.{ℕ, ◌+◌, ◌-◌, ◌<◌}
-use mathlib.Core.Path.{◌≡◌, refl, sym, ap, subst, ◌∙◌}
+use mathlib.Core.Path.{refl, sym, ap, subst, ◌∙◌}
 use mathlib.Core.Logic.{inl, inr, ⊎_elim}
 use native.Mathlib.Omega.{arith}
-use borrow.Author.Rules.{rules}
 use lib.ListN.{length, set, length-set}
 use Rattle.action.proofs.ExactOrders.{cycle_positive}
 use Rattle.pauli_word.specs.Limits.{max_sites}
 use Rattle.permutation.specs.Lengths.{Marked}
 use Rattle.permutation.proofs.Cycles.{cycle-short}
-use Rattle.permutation.proofs.Walks.{Walked, walked_none, walked-past, walked_more, walked_next, walked_all, Found, found_none, found-next, found-marks, found-span}
+use Rattle.permutation.proofs.Walks.{walked_none, walked-past, walked_more, walked_next, walked_all, found_none, found-next, found-marks, found-span}
 use Rattle.permutation.proofs.orders.cycle_lengths.Goals as goal
 use Rattle.permutation.proofs.orders.cycle_lengths.Goals.{then-seen-q-ne1, else-seen-q-ne1}
 use Rattle.permutation.proofs.orders.cycle_lengths.Lts as lts

@@ -1,16 +1,10 @@
 -- `orders::cycle_lengths` meets its contract. The loop's invariant: as many sites are marked as were walked, the length of every marked site has its
 -- mark and lies within the span, and no other length has a mark.
-use Prim.Native.Nat.{ℕ, ◌+◌, ◌-◌, ◌<◌}
-use mathlib.Core.Path.{◌≡◌, refl, sym, ap, subst, ◌∙◌}
-use mathlib.Core.Logic.{inl, inr, ⊎_elim}
-use native.Mathlib.Omega.{arith}
-use borrow.Author.Rules.{rules}
-use lib.ListN.{length, set, length-set}
-use Rattle.action.proofs.ExactOrders.{cycle_positive}
+use Prim.Native.Nat.{◌-◌}
+use mathlib.Core.Path.{◌≡◌}
+use lib.ListN.{length}
 use Rattle.pauli_word.specs.Limits.{max_sites}
-use Rattle.permutation.specs.Lengths.{Marked}
-use Rattle.permutation.proofs.Cycles.{cycle-short}
-use Rattle.permutation.proofs.Walks.{Walked, walked_none, walked-past, walked_more, walked_next, walked_all, Found, found_none, found-next, found-marks, found-span}
+use Rattle.permutation.proofs.Walks.{Walked, Found}
 use Rattle.permutation.proofs.orders.cycle_lengths.Given as goal
 
 abbrev pub invariant-loop-walked : goal.invariant-loop-walked

@@ -1,17 +1,16 @@
-use Prim.Native.Nat.{suc, ◌-◌, ◌<◌}
-use mathlib.Core.Path.{◌≡◌, refl, ap, ◌∙◌}
-use mathlib.Core.Logic.{⊎_elim}
+use Prim.Native.Nat.{◌<◌}
+use mathlib.Core.Path.{refl, ap, ◌∙◌}
 use native.Mathlib.Omega.{arith}
 use lib.ListN.{length, length-set}
-use Rattle.permutation.proofs.Striking.{Struck, struck_none, struck-past, struck-room, struck-next, struck-all}
+use Rattle.permutation.proofs.Striking.{struck_none, struck-past, struck-room, struck-next, struck-all}
 use Rattle.permutation.proofs.orders.strike_equal.Goals as goal
 use Rattle.permutation.proofs.orders.strike_equal.Goals.{then-marks-length-eq1, else-marks-length-eq1}
 use Rattle.permutation.proofs.orders.strike_equal.Lts as lts
 use Rattle.permutation.proofs.orders.strike_equal.Tie as tie
 use Rattle.permutation.proofs.orders.strike_equal.Reads as reads
 
-abbrev ctx-Then2 : Type 0
-ctx-Then2 = lts.Then2 reads.Pre reads.Post goal.the-invariant-loop-length goal.the-decreases-loop-length tie.handed_clauses
+abbrev ctx-Then1 : Type 0
+ctx-Then1 = lts.Then1 reads.Pre reads.Post goal.the-invariant-loop-length goal.the-decreases-loop-length tie.handed_clauses
 
 pub loop-length-init : goal.loop-length-init
 loop-length-init c = let a = c.args in (refl, c.requires.shortest_nonzero.0, struck_none a.span.shortest a.span.longest a.marks.now a.left.now)
@@ -24,7 +23,7 @@ bounds-marks-length c = omega (arith, c.loop-length.invariant.1, c.requires.shor
 
 -- a marked place finds room
 room :
-    (c : ctx-Then2)
+    (c : ctx-Then1)
     → let l = c.loop-length in
     l.count < length l.left
 room c =
@@ -39,12 +38,6 @@ bounds-left-count c = room c.before
 
 pub overflow_add-count : goal.overflow_add-count
 overflow_add-count c = omega (arith, room c.before)
-
-pub overflow_add-length : goal.overflow_add-length
-overflow_add-length c = omega arith
-
-pub loop-length-smaller : goal.loop-length-smaller
-loop-length-smaller c = omega arith
 
 pub loop-length-preserved : goal.loop-length-preserved
 loop-length-preserved c =

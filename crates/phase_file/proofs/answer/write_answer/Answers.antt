@@ -2,16 +2,16 @@
 use borrow.Author.Rules.{rules}
 use Rattle.phase_file.proofs.answer.write_answer.Goals as goal
 
-pub returns-in-Accepted : goal.returns-in-Accepted
-returns-in-Accepted c =
-    rw c.in-Accepted.is (record {
+pub returns-in-Ok : goal.returns-in-Ok
+returns-in-Ok g c =
+    rw c.in-Ok.is (record {
       place = c.append.ensures.place;
       list = c.append.ensures.list;
     })
 
-pub returns-in-Refused : goal.returns-in-Refused
-returns-in-Refused c =
-    rw c.in-Refused.is (record {
+pub returns-in-Err : goal.returns-in-Err
+returns-in-Err g c =
+    rw c.in-Err.is (record {
       place = c.write_refusal.ensures.place;
       list = c.write_refusal.ensures.list;
     })

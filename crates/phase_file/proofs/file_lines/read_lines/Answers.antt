@@ -5,10 +5,11 @@ use mathlib.Core.List.{List}
 use native.Mathlib.Omega.{arith}
 use lib.ListN.{length, take, drop, length-drop}
 use mir.Syntax.{w64}
-use mir.ValLaws.{to_z-of_z}
+use mir.Val.{of_z, to_z}
 use borrow.Author.Rules.{rules}
 use Rattle.pauli_word.proofs.Words.{rest_part}
 use Rattle.text.specs.Text.{line_end, before}
+use Rattle.text.proofs.Numbers.{clamped_stays}
 use Rattle.text.proofs.Pieces.{before_short}
 use Rattle.text.proofs.Lines.{line_slice}
 use Rattle.phases.specs.Rules.{turn}
@@ -120,20 +121,14 @@ bounds-sines-j c = omega (arith, more c.before.before.before.before.before, c.lo
 pub overflow_add-at : goal.overflow_add-at
 overflow_add-at c = omega (arith, ends c.before.before.before.before, (start c.before.before.before.before.before).well_formed)
 
-pub overflow_add-j : goal.overflow_add-j
-overflow_add-j c = record { fits = omega (arith, more c.before.before.before.before.before) }
-
-pub loop-j-smaller : goal.loop-j-smaller
-loop-j-smaller c = omega (arith, more c.before.before.before.before.before)
-
 pub loop-j-preserved : goal.loop-j-preserved
 loop-j-preserved c =
     let l = c.loop-j in
-    let cosine = c.in-Numbers.cosine in
-    let sine = c.in-Numbers.sine in
-    let (is, x, y) = read_numbers (line c.before.before.before.before.before) cosine sine (sym (told c.before.before) ∙ c.in-Numbers.is) in
-    let cosine_stays = to_z-of_z w64 cosine record { sfits = c.in-Numbers.known_told-1-own.given.0.1 } ∙ x in
-    let sine_stays = to_z-of_z w64 sine record { sfits = c.in-Numbers.known_told-1-own.given.1.0.1 } ∙ y in
+    let cosine = c.in-Some.cosine in
+    let sine = c.in-Some.sine in
+    let (is, x, y) = read_numbers (line c.before.before.before.before.before) cosine sine (sym (told c.before.before) ∙ c.in-Some.is) in
+    let cosine_stays = ap (λ z. to_z w64 (of_z w64 z)) x ∙ clamped_stays _ in
+    let sine_stays = ap (λ z. to_z w64 (of_z w64 z)) y ∙ clamped_stays _ in
     rw (cosine_stays, sine_stays) (reading-next l.invariant (r c.before.before.before.before.before) (found c.before.before.before.before.before) (more c.before.before.before.before.before) (ends c.before.before.before.before) is)
 
 pub returns : goal.returns

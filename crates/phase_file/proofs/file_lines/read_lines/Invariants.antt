@@ -20,6 +20,3 @@ use Rattle.phase_file.proofs.file_lines.read_lines.Given as goal
 
 abbrev pub invariant-loop-j : goal.invariant-loop-j
 invariant-loop-j l = Reading l.text l.j l.at l.cosines l.sines
-
-abbrev pub decreases-loop-j : goal.decreases-loop-j
-decreases-loop-j l = turn - l.j

@@ -7,6 +7,3 @@ use Rattle.phases.proofs.rules.order_kept.Given as goal
 
 abbrev pub invariant-loop-j : goal.invariant-loop-j
 invariant-loop-j l = Passing (order_right (table_of l.cosines l.sines)) quarter l.j
-
-abbrev pub decreases-loop-j : goal.decreases-loop-j
-decreases-loop-j l = quarter - l.j

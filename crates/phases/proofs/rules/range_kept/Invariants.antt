@@ -7,6 +7,3 @@ use Rattle.phases.proofs.rules.range_kept.Given as goal
 
 abbrev pub invariant-loop-j : goal.invariant-loop-j
 invariant-loop-j l = Passing (entry_in_range (table_of l.cosines l.sines)) turn l.j
-
-abbrev pub decreases-loop-j : goal.decreases-loop-j
-decreases-loop-j l = turn - l.j

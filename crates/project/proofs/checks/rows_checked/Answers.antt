@@ -1,10 +1,11 @@
+use Rattle.outcome.proofs.Outcomes.{handed_on}
 use Prim.Native.Nat.{◌-◌, ◌≤◌}
 use mathlib.Core.Path.{◌≡◌, refl, sym, ap, ◌∙◌}
 use native.Mathlib.Omega.{arith}
 use lib.IntN.{pos}
 use lib.ListN.{length, drop}
 use borrow.Author.Rules.{rules}
-use Rattle.outcome.specs.Outcome.{outcome_of_verdict, verdict}
+use Rattle.outcome.specs.Outcome.{outcome_of, verdict}
 use Rattle.row_lists.specs.Rows.{rows_in, in_full_by}
 use Rattle.row_lists.specs.Checks.{row_checks}
 use Rattle.project.specs.Calls.{out_of_range}
@@ -20,13 +21,14 @@ row_checked-requires c = record {
   i_in_bounds = c.loop-i-test.true;
 }
 
-pub returns-in-Refused : goal.returns-in-Refused
-returns-in-Refused c =
-    sym
+pub returns-in_err-row_checked : goal.returns-in_err-row_checked
+returns-in_err-row_checked c =
+    ap outcome_of (handed_on c.from_residual.result c.from_residual.ensures.1)
+    ∙ (sym
     (c.loop-i.invariant.1
     ∙ checks-refused out_of_range (pos 0) c.args.sites c.args.size c.args.words.now c.args.coefficients.now c.requires.0 c.requires.1
-    c.loop-i.i c.in-Refused.why c.loop-i-test.true
-    (sym c.row_checked.ensures ∙ ap outcome_of_verdict c.in-Refused.is))
+    c.loop-i.i c.in_err-row_checked.field-0.0 c.loop-i-test.true
+    (sym c.row_checked.ensures ∙ ap outcome_of c.in_err-row_checked.was)))
 
 pub loop-i-preserved : goal.loop-i-preserved
 loop-i-preserved c = (
@@ -34,7 +36,7 @@ loop-i-preserved c = (
   c.loop-i.invariant.1
       ∙ checks-pass out_of_range (pos 0) c.args.sites c.args.size c.args.words.now c.args.coefficients.now c.requires.0 c.requires.1
       c.loop-i.i c.loop-i-test.true
-      (sym c.row_checked.ensures ∙ ap outcome_of_verdict c.in-Accepted.is),
+      (sym c.row_checked.ensures ∙ ap outcome_of c.in_ok-row_checked.was),
 )
 
 pub returns : goal.returns

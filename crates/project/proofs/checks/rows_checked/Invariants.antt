@@ -5,7 +5,7 @@ use native.Mathlib.Omega.{arith}
 use lib.IntN.{pos}
 use lib.ListN.{length, drop}
 use borrow.Author.Rules.{rules}
-use Rattle.outcome.specs.Outcome.{outcome_of_verdict, verdict}
+use Rattle.outcome.specs.Outcome.{outcome_of, verdict}
 use Rattle.row_lists.specs.Rows.{rows_in, in_full_by}
 use Rattle.row_lists.specs.Checks.{row_checks}
 use Rattle.project.specs.Calls.{out_of_range}
@@ -16,6 +16,3 @@ abbrev pub invariant-loop-i : goal.invariant-loop-i
 invariant-loop-i l =
     let rows = rows_in (in_full_by l.size (length l.coefficients) l.words) l.coefficients in
     (l.i ≤ length l.coefficients) × (verdict (row_checks out_of_range l.sites 0 rows) ≡ verdict (row_checks out_of_range l.sites l.i (drop l.i rows)))
-
-abbrev pub decreases-loop-i : goal.decreases-loop-i
-decreases-loop-i l = length l.coefficients - l.i

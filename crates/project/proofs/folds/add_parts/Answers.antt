@@ -95,12 +95,6 @@ offset_bounds-sums-at-in-loop-i c = record { fits = omega (arith, at_small c.bef
 pub bounds-sums-at : goal.bounds-sums-at
 bounds-sums-at c = omega (arith, inside c.before.before.before.before, long c.before.before.before.before)
 
-pub overflow_add-i : goal.overflow_add-i
-overflow_add-i c = record { fits = omega (arith, small c.before.before.before.before) }
-
-pub loop-i-smaller : goal.loop-i-smaller
-loop-i-smaller c = omega (arith, c.loop-i-test.true)
-
 pub loop-i-preserved : goal.loop-i-preserved
 loop-i-preserved c =
     let l = c.loop-i in

@@ -18,6 +18,3 @@ use Rattle.project.proofs.folds.add_parts.Given as goal
 
 abbrev pub invariant-loop-i : goal.invariant-loop-i
 invariant-loop-i l = (l.i ≤ l.rows) × (l.sums ≡ place_values whole_sums (length l.initial.sums) (placed (pos 0) l.places l.parts l.i))
-
-abbrev pub decreases-loop-i : goal.decreases-loop-i
-decreases-loop-i l = l.rows - l.i

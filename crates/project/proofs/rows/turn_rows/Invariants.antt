@@ -22,9 +22,5 @@ use Rattle.project.proofs.rows.turn_rows.Given as goal
 
 abbrev pub invariant-loop-i : goal.invariant-loop-i
 invariant-loop-i l =
-    Turning l.sites (generators_in l.generators l.sites l.targets l.orders) l.modes (in_full_by l.size (length l.coefficients) l.words) l.coefficients l.cosines l.sines l.i l.kept
+    Turning l.group.sites (generators_in l.group.generators l.group.sites l.group.targets.now l.group.orders.now) l.modes (in_full_by l.size (length l.coefficients) l.words) l.coefficients l.cosines l.sines l.i l.kept
     l.representatives l.xs l.ys
-
-abbrev pub decreases-loop-i : goal.decreases-loop-i
-decreases-loop-i l =
-    length l.coefficients - l.i

@@ -5,7 +5,6 @@ use native.Mathlib.Nat.{mul-pos}
 use native.Mathlib.Omega.{arith}
 use Rattle.grid.proofs.Grids.{axis_one, axis_round}
 use Rattle.renumbered.proofs.Filling.{round_rest}
-use borrow.Author.Rules.{rules}
 use Rattle.renumbered.proofs.axes.axis_shape.Goals as goal
 
 pub overflow_mul-result : goal.overflow_mul-result

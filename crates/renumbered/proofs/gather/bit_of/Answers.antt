@@ -5,7 +5,6 @@ use lib.Bits.{and_le_r}
 use lib.ListN.{get_or}
 use Rattle.packed.specs.Packed.{word_bits, bit_of}
 use Rattle.renumbered.proofs.Gathered.{lowest_bit}
-use borrow.Author.Rules.{rules}
 use Rattle.renumbered.proofs.gather.bit_of.Goals as goal
 
 pub returns : goal.returns

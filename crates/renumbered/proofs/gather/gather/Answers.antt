@@ -1,13 +1,11 @@
 use mathlib.Core.Bool.{Bool}
 use lib.ListN.{length-set}
 use Rattle.packed.specs.Packed.{bit_of}
-use Rattle.packed.proofs.Packing.{Between, between_next}
+use Rattle.packed.proofs.Packing.{between_next}
 use Rattle.renumbered.specs.Renumbered.{at}
 use Rattle.renumbered.proofs.Gathered.{first_bits, gathered-word, gathered-bits, gathered-clear}
-use mathlib.Core.Path.{◌≡◌, refl, ◌∙◌}
-use lib.ListN.{length}
-use Prim.Native.Nat.{ℕ, ◌-◌, ◌≤◌}
-use borrow.Author.Rules.{rules}
+use mathlib.Core.Path.{refl, ◌∙◌}
+use Prim.Native.Nat.{ℕ}
 use native.Mathlib.Omega.{arith}
 use Rattle.renumbered.proofs.gather.gather.Goals as goal
 
@@ -29,12 +27,6 @@ offset_bounds-out-i c = omega arith
 pub bounds-out-i : goal.bounds-out-i
 bounds-out-i c = omega arith
 
-pub overflow_add-i : goal.overflow_add-i
-overflow_add-i c = omega arith
-
-pub loop-i-smaller : goal.loop-i-smaller
-loop-i-smaller c = let l = c.loop-i in omega (arith, length-set l.out l.i c.gather_word.result)
-
 pub loop-i-preserved : goal.loop-i-preserved
 loop-i-preserved c =
     let a = c.args in
@@ -53,6 +45,6 @@ returns c =
     let l = c.loop-i in
     let f : ℕ → Bool = λ q. bit_of a.plane.now (at a.table.now q) in
     let room = rw (← l.invariant.1) at c.requires.sites_bound.0 in record {
-      bits = gathered-bits f a.sites l.out l.i room c.loop-i-test.false l.invariant.2;
-      clear = gathered-clear f a.sites l.out l.i room c.loop-i-test.false l.invariant.2;
+      bits = gathered-bits f a.sites l.out l.i room (omega (arith, c.loop-i.auto.out)) l.invariant.2;
+      clear = gathered-clear f a.sites l.out l.i room (omega (arith, c.loop-i.auto.out)) l.invariant.2;
     }

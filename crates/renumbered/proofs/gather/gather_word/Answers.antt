@@ -1,17 +1,13 @@
 use Rattle.renumbered.proofs.Gathered.{gathered_end}
 use Rattle.packed.specs.Packed.{bit_of}
 use Rattle.renumbered.specs.Renumbered.{at}
-use Rattle.renumbered.proofs.Gathered.{Gathered, gathered_start, gathered_next}
-use Prim.Native.Nat.{◌+◌, ◌-◌, ◌≤◌}
-use borrow.Author.Rules.{rules}
+use Rattle.renumbered.proofs.Gathered.{gathered_start, gathered_next}
+use Prim.Native.Nat.{◌+◌}
 use native.Mathlib.Omega.{arith}
 use Rattle.renumbered.proofs.gather.gather_word.Goals as goal
 
 pub loop-k-init : goal.loop-k-init
 loop-k-init c = let a = c.args in (omega arith, gathered_start (λ i. bit_of a.plane.now (at a.table.now (a.start + i))) a.count)
-
-pub overflow_sub-k : goal.overflow_sub-k
-overflow_sub-k c = omega arith
 
 pub overflow_add-start : goal.overflow_add-start
 overflow_add-start c = omega arith
@@ -21,9 +17,6 @@ offset_bounds-table-start c = omega arith
 
 pub bounds-table-start : goal.bounds-table-start
 bounds-table-start c = omega arith
-
-pub loop-k-smaller : goal.loop-k-smaller
-loop-k-smaller c = omega arith
 
 pub loop-k-preserved : goal.loop-k-preserved
 loop-k-preserved c =

@@ -1,15 +1,9 @@
 -- `gather::gather_word` meets its contract. The loop's invariant: the bits from k on are put together.
-use Rattle.renumbered.proofs.Gathered.{gathered_end}
 use Rattle.packed.specs.Packed.{bit_of}
 use Rattle.renumbered.specs.Renumbered.{at}
-use Rattle.renumbered.proofs.Gathered.{Gathered, gathered_start, gathered_next}
-use Prim.Native.Nat.{◌+◌, ◌-◌, ◌≤◌}
-use borrow.Author.Rules.{rules}
-use native.Mathlib.Omega.{arith}
+use Rattle.renumbered.proofs.Gathered.{Gathered}
+use Prim.Native.Nat.{◌+◌, ◌≤◌}
 use Rattle.renumbered.proofs.gather.gather_word.Given as goal
 
 abbrev pub invariant-loop-k : goal.invariant-loop-k
 invariant-loop-k l = (l.k ≤ l.count) × Gathered (λ i. bit_of l.plane (at l.table (l.start + i))) l.count l.k l.word
-
-abbrev pub decreases-loop-k : goal.decreases-loop-k
-decreases-loop-k l = l.k

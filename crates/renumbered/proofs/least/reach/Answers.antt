@@ -6,12 +6,11 @@ use Rattle.elements.specs.HeldGroup.{generators_in}
 use Rattle.renumbered.specs.Renumbered.{grid_of}
 use Rattle.renumbered.proofs.Numbers.{reach-back}
 use Rattle.renumbered.proofs.Turning.{grid-turns, grid-rotations}
-use borrow.Author.Rules.{rules}
 use Rattle.renumbered.proofs.least.reach.Goals as goal
 
 pub reach_by-requires : goal.reach_by-requires
 reach_by-requires c = record {
-  rotations = grid-rotations c.requires.tables c.requires.axes c.args.sites c.requires.renumbered.whole;
+  rotations = grid-rotations c.requires.tables c.requires.axes c.args.group.now.sites c.requires.renumbered.whole;
   planes_2 = c.requires.planes_2.0;
 }
 
@@ -29,8 +28,8 @@ returns c =
     let a = c.args in
     let p = c.requires.planes_2.0 in
     let lens = c.requires.x_len in
-    let gs = generators_in a.generators a.sites a.targets.now a.orders.now in
-    let moved = c.reach_by.ensures.letters (grid_of a.sites gs) (grid-turns c.requires.tables c.requires.axes a.sites) in record {
+    let gs = generators_in a.group.now.generators a.group.now.sites a.group.now.targets.now a.group.now.orders.now in
+    let moved = c.reach_by.ensures.letters (grid_of a.group.now.sites gs) (grid-turns c.requires.tables c.requires.axes a.group.now.sites) in record {
       planes = record {
         few = omega (arith, p.few, lens.0);
         room = omega (arith, p.room, lens.0);

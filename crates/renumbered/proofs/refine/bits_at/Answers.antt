@@ -8,7 +8,6 @@ use Rattle.elements.specs.HeldGroup.{generators_in}
 use Rattle.packed.proofs.Packing.{nothing_clear}
 use Rattle.renumbered.specs.Renumbered.{grid_of}
 use Rattle.renumbered.proofs.Turning.{grid-turns, grid-rotations, order_some, block-whole, block-bits}
-use borrow.Author.Rules.{rules}
 use Rattle.renumbered.proofs.refine.bits_at.Goals as goal
 
 pub nonzero_rem-h : goal.nonzero_rem-h
@@ -34,7 +33,7 @@ reach_by-requires c =
 pub returns : goal.returns
 returns c =
     let a = c.args in
-    let gs = generators_in a.generators a.sites a.targets.now a.orders.now in
+    let gs = generators_in a.group.now.generators a.group.now.sites a.group.now.targets.now a.group.now.orders.now in
     let moved = c.reach_by.ensures.letters (grid_of a.order gs) (grid-turns c.requires.tables c.requires.axes a.order) in record {
       bits = block-bits c.requires.tables.valid c.requires.order_value a.a a.plane.now c.take_block.new.at [] c.reach_by.new.x c.reach_by.new.z c.take_block.ensures.bits (rw c.invert-back.ensures at moved);
       clear = c.reach_by.ensures.planes.x_clear;

@@ -1,6 +1,6 @@
 -- `refine::refine` meets its contract: all candidates are left at first.
 use Prim.Native.Nat.{◌+◌, ◌<◌}
-use mathlib.Core.Path.{◌≡◌, sym, ap, ◌∙◌}
+use mathlib.Core.Path.{sym, ap, ◌∙◌}
 use mathlib.Core.Bool.{Bool, not, ◌&&◌}
 use native.Mathlib.Omega.{arith}
 use borrow.Author.Tests.{le-ltb}
@@ -10,7 +10,6 @@ use Rattle.packed.specs.Packed.{plane_words}
 use Rattle.rotation.proofs.Packs.{fresh-length}
 use Rattle.grid.proofs.Refining.{left-start}
 use Rattle.renumbered.proofs.Turning.{order_some}
-use borrow.Author.Rules.{rules}
 use Rattle.renumbered.proofs.refine.refine.Goals as goal
 
 pub refine_planes-requires : goal.refine_planes-requires

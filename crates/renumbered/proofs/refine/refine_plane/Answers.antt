@@ -1,18 +1,15 @@
-use Prim.Native.Nat.{◌-◌}
-use mathlib.Core.Path.{◌≡◌, refl, sym, ◌∙◌}
+use mathlib.Core.Path.{refl, sym, ◌∙◌}
 use native.Mathlib.Omega.{arith}
-use borrow.Author.Rules.{rules}
-use lib.ListN.{length}
 use Rattle.elements.specs.HeldGroup.{generators_in}
 use Rattle.packed.specs.Packed.{bit_of}
 use Rattle.renumbered.proofs.Turning.{order_some}
-use Rattle.renumbered.proofs.Sites.{Read, read_start, read-alone, read_next, read_end}
+use Rattle.renumbered.proofs.Sites.{read_start, read-alone, read_next, read_end}
 use Rattle.renumbered.proofs.refine.refine_plane.Goals as goal
 
 pub loop-q-init : goal.loop-q-init
 loop-q-init c =
     let a = c.args in
-    (refl, refl, read_start (generators_in a.generators a.sites a.targets.now a.orders.now) a.sites a.order (bit_of a.plane.now) a.place.now (bit_of a.left.now))
+    (refl, refl, read_start (generators_in a.group.now.generators a.group.now.sites a.group.now.targets.now a.group.now.orders.now) a.group.now.sites a.order (bit_of a.plane.now) a.place.now (bit_of a.left.now))
 
 pub bounds-place-q : goal.bounds-place-q
 bounds-place-q c = omega (arith, c.loop-q-test.true, c.requires.tables.sites, c.requires.place_len.0)
@@ -41,12 +38,6 @@ returns-in-Alone c = record {
   ends = refl;
   left = read-alone c.loop-q.invariant.2 c.loop-q-test.true (bit_of c.bits_at.new.bits) c.bits_at.ensures.bits (bit_of c.strike_round-told.new.left) c.strike_round-told.ensures.left c.in-Alone.k (rw c.in-Alone.is at c.strike_round-told.ensures.alone);
 }
-
-pub overflow_add-q : goal.overflow_add-q
-overflow_add-q c = omega (arith, c.loop-q-test.true, c.requires.tables.sites)
-
-pub loop-q-smaller : goal.loop-q-smaller
-loop-q-smaller c = omega (arith, c.loop-q-test.true)
 
 pub loop-q-preserved : goal.loop-q-preserved
 loop-q-preserved c =

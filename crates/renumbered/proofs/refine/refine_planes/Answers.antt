@@ -8,7 +8,6 @@ use Rattle.packed.specs.Packed.{bit_of, letters_by}
 use Rattle.packed.proofs.Packing.{letters_by-length}
 use Rattle.renumbered.proofs.ByBits.{bits_of, staged-alone, staged-end}
 use Rattle.renumbered.proofs.Numbers.{reads_x, reads_z}
-use borrow.Author.Rules.{rules}
 use Rattle.renumbered.proofs.refine.refine_planes.Goals as goal
 
 pub refine_plane-stage-requires : goal.refine_plane-stage-requires
@@ -36,10 +35,10 @@ refine_plane-requires c =
 pub returns-in-Alone : goal.returns-in-Alone
 returns-in-Alone c =
     let a = c.args in
-    let gs = generators_in a.generators a.sites a.targets.now a.orders.now in record {
+    let gs = generators_in a.group.now.generators a.group.now.sites a.group.now.targets.now a.group.now.orders.now in record {
       ends = refl;
-      left = λ f g x z. staged-alone gs (letters_by a.sites f g) (letters_by-length a.sites f g) c.requires.order_value (bit_of c.refine_plane-stage.new.left) c.in-Alone.k (0 + a.sites) (omega arith)
-          ((rw c.in-Alone.is at c.refine_plane-stage.ensures.left) (bits_of a.sites gs (letters_by a.sites f g)) 0 (c.requires.by_index _) (reads_x c.requires.tables.valid c.requires.renumbered f g a.order a.x.now x));
+      left = λ f g x z. staged-alone gs (letters_by a.group.now.sites f g) (letters_by-length a.group.now.sites f g) c.requires.order_value (bit_of c.refine_plane-stage.new.left) c.in-Alone.k (0 + a.group.now.sites) (omega arith)
+          ((rw c.in-Alone.is at c.refine_plane-stage.ensures.left) (bits_of a.group.now.sites gs (letters_by a.group.now.sites f g)) 0 (c.requires.by_index _) (reads_x c.requires.tables.valid c.requires.renumbered f g a.order a.x.now x));
     }
 
 pub returns-in-Tired : goal.returns-in-Tired
@@ -49,10 +48,10 @@ returns-in-Tired c =
 pub returns-in-Through : goal.returns-in-Through
 returns-in-Through c =
     let a = c.args in
-    let gs = generators_in a.generators a.sites a.targets.now a.orders.now in record {
+    let gs = generators_in a.group.now.generators a.group.now.sites a.group.now.targets.now a.group.now.orders.now in record {
       ends = c.refine_plane.ensures.ends;
-      left = λ f g x z. staged-end gs (letters_by a.sites f g) (letters_by-length a.sites f g) c.requires.order_value (bit_of c.refine_plane.new.left) c.refine_plane.result
-          (c.refine_plane.ensures.left (bits_of a.sites gs (letters_by a.sites f g)) (0 + a.sites)
-          ((rw c.in-Through.is at c.refine_plane-stage.ensures.left) (bits_of a.sites gs (letters_by a.sites f g)) 0 (c.requires.by_index _) (reads_x c.requires.tables.valid c.requires.renumbered f g a.order a.x.now x))
+      left = λ f g x z. staged-end gs (letters_by a.group.now.sites f g) (letters_by-length a.group.now.sites f g) c.requires.order_value (bit_of c.refine_plane.new.left) c.refine_plane.result
+          (c.refine_plane.ensures.left (bits_of a.group.now.sites gs (letters_by a.group.now.sites f g)) (0 + a.group.now.sites)
+          ((rw c.in-Through.is at c.refine_plane-stage.ensures.left) (bits_of a.group.now.sites gs (letters_by a.group.now.sites f g)) 0 (c.requires.by_index _) (reads_x c.requires.tables.valid c.requires.renumbered f g a.order a.x.now x))
           (reads_z c.requires.tables.valid c.requires.renumbered f g a.order a.z.now z));
     }

@@ -10,7 +10,7 @@ use Rattle.renumbered.specs.Renumbered.{at}
 use Rattle.renumbered.proofs.Tabled.{rotated-next}
 use mathlib.Core.Path.{◌≡◌, sym, ◌∙◌}
 use lib.ListN.{get_or}
-use Prim.Native.Nat.{ℕ, ◌+◌, ◌-◌, ◌*◌, ◌≤◌, ◌<◌}
+use Prim.Native.Nat.{ℕ, ◌+◌, ◌-◌, ◌*◌}
 use native.Mathlib.Omega.{arith}
 use Rattle.renumbered.proofs.table.carries.Goals as goal
 
@@ -61,12 +61,6 @@ overflow_add-inside-in-loop-a c = omega (arith, c.loop-a.invariant.1, mod-lt c.l
 
 pub round-inside-requires : goal.round-inside-requires
 round-inside-requires c = omega (arith, c.loop-a.invariant.1, mod-lt c.loop-a.a c.requires.block_nonzero.0)
-
-pub overflow_add-a : goal.overflow_add-a
-overflow_add-a c = omega arith
-
-pub loop-a-smaller : goal.loop-a-smaller
-loop-a-smaller c = omega arith
 
 pub loop-a-preserved : goal.loop-a-preserved
 loop-a-preserved c =

@@ -1,8 +1,4 @@
-use Rattle.pauli_word.specs.Limits.{max_sites}
-use mathlib.Core.Path.{◌≡◌, sym, ◌∙◌}
-use lib.ListN.{length}
-use Prim.Native.Nat.{◌-◌, ◌≤◌}
-use borrow.Author.Rules.{rules}
+use mathlib.Core.Path.{◌∙◌}
 use native.Mathlib.Omega.{arith}
 use Rattle.renumbered.proofs.table.fill_axis.Goals as goal
 
@@ -23,12 +19,6 @@ number_next-requires c = let l = c.loop-h in record {
   targets_len = c.requires.targets_len;
   before_lt_max_sites = (omega (arith, c.requires.round_bound, l.invariant.2), omega (arith, c.requires.round_bound), l.invariant.0, l.invariant.1);
 }
-
-pub overflow_add-h : goal.overflow_add-h
-overflow_add-h c = omega arith
-
-pub loop-h-smaller : goal.loop-h-smaller
-loop-h-smaller c = omega arith
 
 pub loop-h-preserved : goal.loop-h-preserved
 loop-h-preserved c =

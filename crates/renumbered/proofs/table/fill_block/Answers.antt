@@ -1,14 +1,11 @@
 use Rattle.renumbered.proofs.Turning.{order_some}
 use mathlib.Core.Path.{ap}
-use lib.ListN.{take}
-use Rattle.pauli_word.specs.Limits.{max_sites}
 use Rattle.action.specs.Arithmetic.{product}
 use Rattle.grid.proofs.Grids.{place-next}
 use Rattle.renumbered.proofs.Filling.{round_within}
-use mathlib.Core.Path.{◌≡◌, refl, sym, ◌∙◌}
-use lib.ListN.{length, get_or}
-use Prim.Native.Nat.{ℕ, ◌-◌, ◌*◌, ◌≤◌}
-use borrow.Author.Rules.{rules}
+use mathlib.Core.Path.{refl, sym, ◌∙◌}
+use lib.ListN.{get_or}
+use Prim.Native.Nat.{ℕ, ◌*◌}
 use native.Mathlib.Omega.{arith}
 use Rattle.renumbered.proofs.table.fill_block.Goals as goal
 
@@ -36,18 +33,12 @@ fill_axis-requires c =
       round_bound = rw l.invariant.1 (omega (arith, round_within c.requires.tables l.g more, c.requires.order_value, c.requires.order_bound.0));
     }
 
-pub overflow_add-g : goal.overflow_add-g
-overflow_add-g c = omega arith
-
-pub loop-g-smaller : goal.loop-g-smaller
-loop-g-smaller c = omega arith
-
 pub loop-g-preserved : goal.loop-g-preserved
 loop-g-preserved c =
     let l = c.loop-g in
     let more = c.loop-g-test.true in (
       omega (arith, more),
-      ap (λ (p : ℕ). p * get_or c.args.orders.now l.g 0) l.invariant.1 ∙ sym (place-next c.requires.tables l.g more),
+      ap (λ (p : ℕ). p * get_or c.args.group.now.orders.now l.g 0) l.invariant.1 ∙ sym (place-next c.requires.tables l.g more),
       c.fill_axis.auto.site ∙ l.invariant.2,
       c.fill_axis.auto.place ∙ l.invariant.3,
     )

@@ -9,12 +9,11 @@ use Rattle.action.specs.Arithmetic.{product}
 use Rattle.elements.proofs.TableRows.{order-positive-at}
 use Rattle.grid.proofs.Grids.{place-positive, place-next}
 use Rattle.renumbered.proofs.Filling.{round_within}
-use Rattle.renumbered.proofs.Tabled.{Carries, all_renumbered}
+use Rattle.renumbered.proofs.Tabled.{all_renumbered}
 use Rattle.renumbered.proofs.Turning.{order_some}
-use mathlib.Core.Path.{◌≡◌, refl, sym, ◌∙◌}
+use mathlib.Core.Path.{refl, sym, ◌∙◌}
 use lib.ListN.{get_or}
-use Prim.Native.Nat.{ℕ, ◌-◌, ◌*◌, ◌≤◌}
-use borrow.Author.Rules.{rules}
+use Prim.Native.Nat.{ℕ, ◌*◌}
 use native.Mathlib.Omega.{arith}
 use Rattle.renumbered.proofs.table.is_renumbered.Goals as goal
 
@@ -44,18 +43,12 @@ carries-requires c =
     let p = place-positive c.requires.tables l.g (omega (arith, more)) in
     let undo = c.undo_each_other.ensures (not-false _ c.if-not-undo_each_other.false-raw) in record {
       targets_len = (c.requires.tables.places, omega (arith, c.requires.tables.few, more), c.requires.tables.sites, c.requires.site_len.0);
-      block_nonzero = rw l.invariant.1 (mul-pos p o, round_more (product (take l.g c.args.orders.now)) (get_or c.args.orders.now l.g 0) o, omega (arith, round_within c.requires.tables l.g more, c.requires.order_value, c.requires.site_len.2));
+      block_nonzero = rw l.invariant.1 (mul-pos p o, round_more (product (take l.g c.args.group.now.orders.now)) (get_or c.args.group.now.orders.now l.g 0) o, omega (arith, round_within c.requires.tables l.g more, c.requires.order_value, c.requires.site_len.2));
       by_index = λ a h. (undo a h).0;
     }
 
 pub returns-then-not-carries : goal.returns-then-not-carries
 returns-then-not-carries c t = absurd (false≢true t)
-
-pub overflow_add-g : goal.overflow_add-g
-overflow_add-g c = omega arith
-
-pub loop-g-smaller : goal.loop-g-smaller
-loop-g-smaller c = omega arith
 
 pub loop-g-preserved : goal.loop-g-preserved
 loop-g-preserved c =
@@ -63,7 +56,7 @@ loop-g-preserved c =
     let more = c.loop-g-test.true in
     let passed = c.carries.ensures (not-false _ c.if-not-carries.false-raw) in (
       omega (arith, more),
-      ap (λ (p : ℕ). p * get_or c.args.orders.now l.g 0) l.invariant.1 ∙ sym (place-next c.requires.tables l.g more),
+      ap (λ (p : ℕ). p * get_or c.args.group.now.orders.now l.g 0) l.invariant.1 ∙ sym (place-next c.requires.tables l.g more),
       below_more _ _ l.invariant.2 (rw l.invariant.1 at passed),
     )
 

@@ -1,6 +1,5 @@
 -- `table::number_block` is safe, and no number passes the sites.
 use native.Mathlib.Omega.{arith}
-use borrow.Author.Rules.{rules}
 use Rattle.renumbered.proofs.table.number_block.Goals as goal
 
 pub fill_block-requires : goal.fill_block-requires

@@ -1,8 +1,4 @@
-use Rattle.pauli_word.specs.Limits.{max_sites}
-use mathlib.Core.Path.{◌≡◌, sym, ◌∙◌}
-use lib.ListN.{length}
-use Prim.Native.Nat.{◌-◌, ◌≤◌}
-use borrow.Author.Rules.{rules}
+use mathlib.Core.Path.{◌∙◌}
 use native.Mathlib.Omega.{arith}
 use Rattle.renumbered.proofs.table.number_free.Goals as goal
 
@@ -16,12 +12,6 @@ number_block-start-requires c = let l = c.loop-q in record {
   site_len = (l.invariant.1, l.invariant.2);
   start_le_sites = (l.invariant.0, c.loop-q-test.true);
 }
-
-pub overflow_add-q : goal.overflow_add-q
-overflow_add-q c = omega arith
-
-pub loop-q-smaller : goal.loop-q-smaller
-loop-q-smaller c = omega arith
 
 pub loop-q-preserved : goal.loop-q-preserved
 loop-q-preserved c =

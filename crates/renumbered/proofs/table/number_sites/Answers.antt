@@ -1,9 +1,5 @@
 use lib.ListN.{length-set}
-use Rattle.pauli_word.specs.Limits.{max_sites}
-use mathlib.Core.Path.{◌≡◌, sym, ◌∙◌}
-use lib.ListN.{length}
-use Prim.Native.Nat.{◌-◌}
-use borrow.Author.Rules.{rules}
+use mathlib.Core.Path.{◌∙◌}
 use native.Mathlib.Omega.{arith}
 use Rattle.renumbered.proofs.table.number_sites.Goals as goal
 
@@ -19,14 +15,8 @@ offset_bounds-place-q c = omega arith
 pub bounds-place-q : goal.bounds-place-q
 bounds-place-q c = omega (arith, c.requires.tables.sites, c.loop-q.invariant)
 
-pub overflow_add-q : goal.overflow_add-q
-overflow_add-q c = omega arith
-
-pub loop-q-smaller : goal.loop-q-smaller
-loop-q-smaller c = omega arith
-
 pub loop-q-preserved : goal.loop-q-preserved
-loop-q-preserved c = let l = c.loop-q in length-set l.place l.q c.args.sites ∙ l.invariant
+loop-q-preserved c = let l = c.loop-q in length-set l.place l.q c.args.group.now.sites ∙ l.invariant
 
 pub number_free-requires : goal.number_free-requires
 number_free-requires c = record {

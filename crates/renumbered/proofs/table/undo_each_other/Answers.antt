@@ -2,8 +2,7 @@ use borrow.Author.Tests.{leb-false, eqb-true, not-false}
 use borrow.Author.Count.{below_more}
 use mathlib.Core.Bool.{false≢true}
 use Rattle.renumbered.specs.Renumbered.{at}
-use mathlib.Core.Path.{◌≡◌}
-use Prim.Native.Nat.{ℕ, ◌-◌, ◌≤◌, ◌<◌}
+use Prim.Native.Nat.{◌<◌}
 use native.Mathlib.Omega.{arith}
 use Rattle.renumbered.proofs.table.undo_each_other.Goals as goal
 
@@ -39,12 +38,6 @@ bounds-site-b c = let h : at c.args.place.now c.loop-a.a < c.args.sites = leb-fa
 
 pub returns-then-place-q : goal.returns-then-place-q
 returns-then-place-q c t = absurd (false≢true t)
-
-pub overflow_add-a : goal.overflow_add-a
-overflow_add-a c = omega arith
-
-pub loop-a-smaller : goal.loop-a-smaller
-loop-a-smaller c = omega arith
 
 pub loop-a-preserved : goal.loop-a-preserved
 loop-a-preserved c = let l = c.loop-a in (omega arith, below_more _ _ l.invariant.1 (omega arith, leb-false _ _ c.if-sites-b.false-raw, omega arith, eqb-true _ _ (not-false _ c.if-site-b.false-raw)))

@@ -1,7 +1,6 @@
 -- `least::lead_of` meets its contract: where one index alone reaches the least of the X plane's orbit it leads, and else the whole word is walked.
 use mathlib.Core.Path.{sym, ◌∙◌}
 use native.Mathlib.Omega.{arith}
-use borrow.Author.Rules.{rules}
 use Rattle.rotation.proofs.Leads.{x_planes, x-forward, x-fixing}
 use Rattle.rotation.proofs.least.lead_of.Goals as goal
 

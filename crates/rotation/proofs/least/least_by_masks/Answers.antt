@@ -1,6 +1,5 @@
 -- `least::least_by_masks` meets its contract: the planes have a bit for each site.
 use mathlib.Core.Path.{refl}
-use borrow.Author.Rules.{rules}
 use Rattle.rotation.proofs.Packs.{fresh-length}
 use Rattle.rotation.proofs.least.least_by_masks.Goals as goal
 

@@ -1,6 +1,5 @@
 -- `least::least_in` meets its contract: the planes hold the word, and then what the index that leads reaches from it, which is the least.
 use mathlib.Core.Path.{sym, ap, ◌∙◌}
-use borrow.Author.Rules.{rules}
 use Rattle.pauli_word.specs.Bytes.{letters_in, bytes_of}
 use Rattle.rotation.proofs.Packs.{own-length}
 use Rattle.rotation.proofs.Leads.{lead_least}
@@ -31,7 +30,7 @@ returns c =
     let index = rw c.pack_planes.ensures.letters at c.lead_of-lead.ensures.index in
     let ties = rw c.pack_planes.ensures.letters at c.lead_of-lead.ensures.ties in
     let moved = rw c.pack_planes.ensures.letters at c.reach.ensures.letters in
-    let reached = moved ∙ lead_least c.requires.tables.valid (letters_in c.args.sites c.args.word.now) index in record {
+    let reached = moved ∙ lead_least c.requires.tables.valid (letters_in c.args.group.now.sites c.args.word.now) index in record {
       word = c.unpack_planes-out.ensures ∙ ap bytes_of reached;
       index = index;
       ties = ties;

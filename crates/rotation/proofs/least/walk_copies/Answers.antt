@@ -1,6 +1,5 @@
 -- `least::walk_copies` meets its contract: the word at hand and the best so far are the word.
 use mathlib.Core.Path.{sym, ◌∙◌}
-use borrow.Author.Rules.{rules}
 use Rattle.rotation.proofs.least.walk_copies.Goals as goal
 
 pub copy-requires-4 : goal.copy-requires-4

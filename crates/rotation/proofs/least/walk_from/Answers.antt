@@ -1,6 +1,5 @@
 -- `least::walk_from` meets its contract: there is room for each copy, and it is as long as its plane.
 use native.Mathlib.Omega.{arith}
-use borrow.Author.Rules.{rules}
 use lib.ListN.{length}
 use Rattle.rotation.proofs.Packs.{z_few, fresh-length}
 use Rattle.rotation.proofs.least.walk_from.Goals as goal

@@ -1,9 +1,9 @@
-use Prim.Native.Nat.{◌+◌, ◌-◌, ◌*◌, ◌≤◌}
-use mathlib.Core.Path.{◌≡◌, refl, ◌∙◌}
+use Prim.Native.Nat.{◌+◌, ◌*◌, ◌≤◌}
+use mathlib.Core.Path.{refl, ◌∙◌}
 use native.Mathlib.Omega.{arith}
 use lib.ListN.{length}
 use Rattle.elements.proofs.Orbits.{part_length}
-use Rattle.rotation.proofs.Moved.{MasksTo, masks_next, replaced-length, part-inside}
+use Rattle.rotation.proofs.Moved.{masks_next, replaced-length, part-inside}
 use Rattle.rotation.proofs.planes.fill_masks.Goals as goal
 
 pub loop-g-init : goal.loop-g-init
@@ -53,12 +53,6 @@ keep_mask-requires c =
     let fine = c.requires.by_index l.g c.loop-g-test.true in
     let room : c.args.m * l.g + c.args.m ≤ length l.masks = omega (arith, part-inside c.args.m l.g (omega (arith, c.requires.strides_len.2, c.loop-g-test.true)), c.requires.sites_bound.2, l.invariant.1) in
     (fine.0, fine.1, omega arith, rw (part_length c.args.m l.g l.masks room) c.requires.sites_bound.0)
-
-pub overflow_add-g : goal.overflow_add-g
-overflow_add-g c = omega (arith, c.requires.strides_len.2, c.loop-g-test.true)
-
-pub loop-g-smaller : goal.loop-g-smaller
-loop-g-smaller c = omega (arith, c.loop-g-test.true)
 
 pub loop-g-preserved : goal.loop-g-preserved
 loop-g-preserved c =

@@ -1,6 +1,5 @@
 -- `planes::pack_planes` meets its contract: each plane has the bits of its part of the bytes.
 use mathlib.Core.Path.{◌≡◌, ◌∙◌}
-use borrow.Author.Rules.{rules}
 use lib.ListN.{length}
 use Rattle.rotation.proofs.Packs.{packed-planes, packed-letters}
 use Rattle.rotation.proofs.planes.pack_planes.Goals as goal

@@ -2,11 +2,10 @@
 use mathlib.Core.Path.{◌≡◌, ◌∙◌}
 use mathlib.Core.List.{◌++◌}
 use native.Mathlib.Omega.{arith}
-use borrow.Author.Rules.{rules}
 use borrow.Rule.Slice.PartMut.{put_mid}
 use lib.ListN.{length, drop}
 use lib.Seq.{length-take-le}
-use Rattle.pauli_word.specs.Limits.{plane_length, word_length}
+use Rattle.pauli_word.specs.Limits.{plane_length}
 use Rattle.pauli_word.proofs.Planes.{bytes_of_lem}
 use Rattle.rotation.proofs.Packs.{z_few, second-length, second-put, unpacked-word}
 use Rattle.rotation.proofs.planes.put_planes.Goals as goal

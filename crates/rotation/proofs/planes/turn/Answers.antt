@@ -3,7 +3,6 @@ use mathlib.Core.Path.{refl, sym, ◌∙◌}
 use native.Mathlib.Omega.{arith}
 use Rattle.packed.specs.Packed.{rotated}
 use Rattle.rotation.proofs.Moved.{turned-planes, turned-letters, nothing_bit, z_long_lem}
-use borrow.Author.Rules.{rules}
 use Rattle.rotation.proofs.planes.turn.Goals as goal
 
 pub rotate_kept-requires : goal.rotate_kept-requires

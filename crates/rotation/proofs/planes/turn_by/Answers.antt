@@ -1,7 +1,6 @@
 -- `planes::turn_by` meets its contract: what stands in the front of the list of masks is the mask, and the word is turned by it.
 use mathlib.Core.Path.{◌≡◌, ◌∙◌}
 use lib.ListN.{length}
-use borrow.Author.Rules.{rules}
 use Rattle.rotation.proofs.Packs.{fresh-length, front-inside, front-mask, front-planes, planes-front}
 use Rattle.rotation.proofs.planes.turn_by.Goals as goal
 

@@ -1,15 +1,12 @@
-use Prim.Native.Nat.{◌+◌, ◌-◌, ◌%◌, ◌≤◌, ◌<◌}
-use mathlib.Core.Path.{◌≡◌, refl, sym, ◌∙◌}
+use Prim.Native.Nat.{◌+◌, ◌%◌, ◌<◌}
+use mathlib.Core.Path.{refl, sym, ◌∙◌}
 use native.Mathlib.Omega.{arith}
-use mathlib.Core.List.{List}
-use lib.ListN.{length, get_or}
+use lib.ListN.{get_or}
 use Rattle.permutation.specs.Limits.{max_generators}
-use Rattle.action.specs.Permutation.{Generator}
-use Rattle.action.specs.Orbit.{reach}
 use Rattle.packed.specs.Packed.{bit_of, letters_at}
 use Rattle.packed.proofs.Packing.{letters_by-length}
-use Rattle.rotation.specs.Rotation.{Blocks, Turns, Planes}
-use Rattle.rotation.proofs.Reached.{blocks_times, turns_small, rest_of, reached_start, reached-next, reached-end}
+use Rattle.rotation.specs.Rotation.{Blocks}
+use Rattle.rotation.proofs.Reached.{blocks_times, turns_small, reached_start, reached-next, reached-end}
 use Rattle.rotation.proofs.reach.reach_by.Goals as goal
 
 pub loop-g-init : goal.loop-g-init
@@ -49,7 +46,7 @@ bounds-rests-g c =
 
 pub overflow_add-block : goal.overflow_add-block
 overflow_add-block c =
-    let blocks : Blocks c.args.sites (get_or c.args.strides.now c.loop-g.g 0) (get_or c.args.strides.now c.loop-g.g 0 + get_or c.args.rests.now c.loop-g.g 0) = c.requires.rotations.blocks c.loop-g.g c.loop-g-test.true in
+    let blocks : Blocks c.args.sites (get_or c.args.shapes.now.strides c.loop-g.g 0) (get_or c.args.shapes.now.strides c.loop-g.g 0 + get_or c.args.shapes.now.rests c.loop-g.g 0) = c.requires.rotations.blocks c.loop-g.g c.loop-g-test.true in
     omega (arith, blocks.small)
 
 pub nonzero_rem-rest : goal.nonzero_rem-rest
@@ -60,19 +57,19 @@ nonzero_rem-rest c =
 pub overflow_mul-rest : goal.overflow_mul-rest
 overflow_mul-rest c =
     let some : 0 < get_or c.args.orders.now c.loop-g.g 0 = c.requires.rotations.some c.loop-g.g c.loop-g-test.true in
-    let blocks : Blocks c.args.sites (get_or c.args.strides.now c.loop-g.g 0) (get_or c.args.strides.now c.loop-g.g 0 + get_or c.args.rests.now c.loop-g.g 0) = c.requires.rotations.blocks c.loop-g.g c.loop-g-test.true in
+    let blocks : Blocks c.args.sites (get_or c.args.shapes.now.strides c.loop-g.g 0) (get_or c.args.shapes.now.strides c.loop-g.g 0 + get_or c.args.shapes.now.rests c.loop-g.g 0) = c.requires.rotations.blocks c.loop-g.g c.loop-g-test.true in
     let l = c.loop-g in
     let o = get_or c.args.orders.now l.g 0 in
     omega (arith, turns_small l.rest o some blocks, c.type_inv.orders l.g)
 
 pub nonzero_rem-rest-in-loop-g : goal.nonzero_rem-rest-in-loop-g
 nonzero_rem-rest-in-loop-g c =
-    let blocks : Blocks c.args.sites (get_or c.args.strides.now c.loop-g.g 0) (get_or c.args.strides.now c.loop-g.g 0 + get_or c.args.rests.now c.loop-g.g 0) = c.requires.rotations.blocks c.loop-g.g c.loop-g-test.true in
+    let blocks : Blocks c.args.sites (get_or c.args.shapes.now.strides c.loop-g.g 0) (get_or c.args.shapes.now.strides c.loop-g.g 0 + get_or c.args.shapes.now.rests c.loop-g.g 0) = c.requires.rotations.blocks c.loop-g.g c.loop-g-test.true in
     omega (arith, blocks.inside)
 
 pub turn_by-requires : goal.turn_by-requires
 turn_by-requires c =
-    let blocks : Blocks c.args.sites (get_or c.args.strides.now c.loop-g.g 0) (get_or c.args.strides.now c.loop-g.g 0 + get_or c.args.rests.now c.loop-g.g 0) = c.requires.rotations.blocks c.loop-g.g c.loop-g-test.true in
+    let blocks : Blocks c.args.sites (get_or c.args.shapes.now.strides c.loop-g.g 0) (get_or c.args.shapes.now.strides c.loop-g.g 0 + get_or c.args.shapes.now.rests c.loop-g.g 0) = c.requires.rotations.blocks c.loop-g.g c.loop-g-test.true in
     let l = c.loop-g in
     let p = l.invariant.1 in
     let o = get_or c.args.orders.now l.g 0 in record {
@@ -84,14 +81,6 @@ pub nonzero_div-rest : goal.nonzero_div-rest
 nonzero_div-rest c =
     let some : 0 < get_or c.args.orders.now c.loop-g.g 0 = c.requires.rotations.some c.loop-g.g c.loop-g-test.true in
     some
-
-pub overflow_add-g : goal.overflow_add-g
-overflow_add-g c =
-    let few : c.loop-g.g < max_generators = omega (arith, c.requires.rotations.few, c.loop-g-test.true) in
-    omega (arith, few)
-
-pub loop-g-smaller : goal.loop-g-smaller
-loop-g-smaller c = omega (arith, c.loop-g-test.true)
 
 pub loop-g-preserved : goal.loop-g-preserved
 loop-g-preserved c =

@@ -1,4 +1,4 @@
-use Prim.Native.Nat.{ℕ, ◌+◌, ◌-◌, ◌%◌, ◌≤◌, ◌<◌}
+use Prim.Native.Nat.{ℕ, ◌+◌, ◌%◌, ◌<◌}
 use mathlib.Core.Path.{◌≡◌, ap, ◌∙◌}
 use mathlib.Core.Bool.{false≢true}
 use native.Mathlib.Nat.{mod-lt}
@@ -33,12 +33,6 @@ overflow_add-base c =
 
 pub returns-then-target-base : goal.returns-then-target-base
 returns-then-target-base c = (λ e. absurd (false≢true e))
-
-pub overflow_add-place-in-loop-place : goal.overflow_add-place-in-loop-place
-overflow_add-place-in-loop-place c = omega (arith, c.requires, c.loop-place-test.true)
-
-pub loop-place-smaller : goal.loop-place-smaller
-loop-place-smaller c = omega (arith, c.loop-place-test.true)
 
 pub loop-place-preserved : goal.loop-place-preserved
 loop-place-preserved c =

@@ -1,9 +1,7 @@
-use Prim.Native.Nat.{◌-◌}
 use mathlib.Core.Bool.{false≢true}
 use native.Mathlib.Omega.{arith}
-use lib.ListN.{length}
 use borrow.Author.Tests.{not-false}
-use Rattle.rotation.proofs.Shaping.{Seen, seen_start, block_inside, seen_next, seen_end}
+use Rattle.rotation.proofs.Shaping.{seen_start, block_inside, seen_next, seen_end}
 use Rattle.rotation.proofs.shape.rotates.Goals as goal
 
 pub loop-base-init : goal.loop-base-init

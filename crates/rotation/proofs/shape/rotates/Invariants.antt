@@ -1,10 +1,7 @@
 -- `shape::rotates` meets its contract. The loop's invariant: the blocks before have been seen to rotate.
 use Prim.Native.Nat.{◌-◌}
-use mathlib.Core.Bool.{false≢true}
-use native.Mathlib.Omega.{arith}
 use lib.ListN.{length}
-use borrow.Author.Tests.{not-false}
-use Rattle.rotation.proofs.Shaping.{Seen, seen_start, block_inside, seen_next, seen_end}
+use Rattle.rotation.proofs.Shaping.{Seen}
 use Rattle.rotation.proofs.shape.rotates.Given as goal
 
 abbrev pub invariant-loop-base : goal.invariant-loop-base

@@ -1,6 +1,4 @@
-use Prim.Native.Nat.{◌-◌, ◌≤◌}
 use native.Mathlib.Omega.{arith}
-use lib.ListN.{length}
 use Rattle.rotation.proofs.shape.source_of_zero.Goals as goal
 
 pub loop-q-init : goal.loop-q-init
@@ -14,12 +12,6 @@ bounds-perm-q c = omega arith
 
 pub returns-then-perm-q-eq0 : goal.returns-then-perm-q-eq0
 returns-then-perm-q-eq0 c = omega arith
-
-pub overflow_add-q : goal.overflow_add-q
-overflow_add-q c = omega arith
-
-pub loop-q-smaller : goal.loop-q-smaller
-loop-q-smaller c = omega arith
 
 pub loop-q-preserved : goal.loop-q-preserved
 loop-q-preserved c = omega arith

@@ -1,16 +1,12 @@
-use Prim.Native.Nat.{◌+◌, ◌-◌, ◌*◌, ◌≤◌, ◌<◌}
-use mathlib.Core.Path.{◌≡◌, refl, sym, ◌∙◌}
+use Prim.Native.Nat.{◌+◌, ◌*◌, ◌≤◌, ◌<◌}
+use mathlib.Core.Path.{refl, sym, ◌∙◌}
 use native.Mathlib.Nat.{mod-lt}
 use native.Mathlib.Omega.{arith}
-use lib.ListN.{length, get_or, drop}
+use lib.ListN.{get_or}
 use Rattle.permutation.specs.Limits.{max_generators}
-use Rattle.action.specs.Index.{digits}
-use Rattle.action.specs.Orbit.{stepped}
-use Rattle.elements.specs.HeldGroup.{generators_in}
 use Rattle.elements.proofs.TableRows.{order-positive-at}
 use Rattle.elements.proofs.Steps.{stepped-end}
 use Rattle.packed.specs.Packed.{plane_words, letters_at}
-use Rattle.rotation.specs.Rotation.{Planes}
 use Rattle.rotation.proofs.Moved.{part-inside, lent-inside, lent_length, lent-keep}
 use Rattle.rotation.proofs.Walks.{turned-last, turned_on}
 use Rattle.rotation.proofs.walk.advance.Goals as goal
@@ -91,35 +87,27 @@ bounds-orders-g c =
 
 pub nonzero_rem-rest : goal.nonzero_rem-rest
 nonzero_rem-rest c =
-    let some : 0 < get_or c.args.orders.now c.loop-g.g 0 = order-positive-at c.requires.tables c.loop-g.g c.loop-g-test.true in
+    let some : 0 < get_or c.args.group.now.orders.now c.loop-g.g 0 = order-positive-at c.requires.tables c.loop-g.g c.loop-g-test.true in
     some
 
 pub overflow_add-rest : goal.overflow_add-rest
 overflow_add-rest c =
-    let some : 0 < get_or c.args.orders.now c.loop-g.g 0 = order-positive-at c.requires.tables c.loop-g.g c.loop-g-test.true in
+    let some : 0 < get_or c.args.group.now.orders.now c.loop-g.g 0 = order-positive-at c.requires.tables c.loop-g.g c.loop-g-test.true in
     let l = c.loop-g in
-    omega (arith, mod-lt l.rest some, c.type_inv.orders l.g)
+    omega (arith, mod-lt l.rest some)
 
 pub returns-then-rest-o : goal.returns-then-rest-o
 returns-then-rest-o c =
     let l = c.loop-g in
     let more = c.loop-g-test.true in record {
       planes = rw (lent_length c.requires.tables.few c.requires.masks l.g more) at c.turn.ensures.planes;
-      letters = turned-last c.requires.tables c.requires.shapes l.g l.rest more (letters_at c.args.sites l.x l.z) c.turn.ensures.letters c.if-rest-o.true ∙ sym l.invariant.3;
+      letters = turned-last c.requires.tables c.requires.shapes l.g l.rest more (letters_at c.args.group.now.sites l.x l.z) c.turn.ensures.letters c.if-rest-o.true ∙ sym l.invariant.3;
     }
 
 pub nonzero_div-rest : goal.nonzero_div-rest
 nonzero_div-rest c =
-    let some : 0 < get_or c.args.orders.now c.loop-g.g 0 = order-positive-at c.requires.tables c.loop-g.g c.loop-g-test.true in
+    let some : 0 < get_or c.args.group.now.orders.now c.loop-g.g 0 = order-positive-at c.requires.tables c.loop-g.g c.loop-g-test.true in
     some
-
-pub overflow_add-g : goal.overflow_add-g
-overflow_add-g c =
-    let few : c.loop-g.g < max_generators = omega (arith, c.requires.tables.few, c.loop-g-test.true) in
-    omega (arith, few)
-
-pub loop-g-smaller : goal.loop-g-smaller
-loop-g-smaller c = omega (arith, c.loop-g-test.true)
 
 pub loop-g-preserved : goal.loop-g-preserved
 loop-g-preserved c =
@@ -128,12 +116,12 @@ loop-g-preserved c =
       omega (arith, more),
       rw (lent_length c.requires.tables.few c.requires.masks l.g more) at c.turn.ensures.planes,
       c.turn.auto.z ∙ l.invariant.2,
-      l.invariant.3 ∙ turned_on c.requires.tables c.requires.shapes l.g l.rest more (letters_at c.args.sites l.x l.z) c.turn.ensures.letters c.if-rest-o.false,
+      l.invariant.3 ∙ turned_on c.requires.tables c.requires.shapes l.g l.rest more (letters_at c.args.group.now.sites l.x l.z) c.turn.ensures.letters c.if-rest-o.false,
     )
 
 pub returns : goal.returns
 returns c =
     let l = c.loop-g in record {
       planes = l.invariant.1;
-      letters = sym (l.invariant.3 ∙ stepped-end c.requires.tables l.g l.rest (letters_at c.args.sites l.x l.z) c.loop-g-test.false);
+      letters = sym (l.invariant.3 ∙ stepped-end c.requires.tables l.g l.rest (letters_at c.args.group.now.sites l.x l.z) c.loop-g-test.false);
     }

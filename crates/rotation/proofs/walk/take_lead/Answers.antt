@@ -1,6 +1,5 @@
 -- `walk::take_lead` meets its contract: each answer of the comparison is a case of what is to be kept and counted.
 use mathlib.Core.Path.{refl, sym, ◌∙◌}
-use borrow.Author.Rules.{rules}
 use Rattle.rotation.proofs.walk.take_lead.Goals as goal
 
 pub returns-in-Less : goal.returns-in-Less
@@ -12,9 +11,9 @@ returns-in-Less c =
       z = rw least c.copy-in-Less.ensures;
     }
 
-pub returns-in-Same : goal.returns-in-Same
-returns-in-Same c =
-    let same = sym c.order_of.ensures ∙ c.in-Same.is in record {
+pub returns-in-Equal : goal.returns-in-Equal
+returns-in-Equal c =
+    let same = sym c.order_of.ensures ∙ c.in-Equal.is in record {
       index = rw same refl;
       ties = rw same refl;
       x = rw same refl;

@@ -1,4 +1,4 @@
-use Prim.Native.Nat.{◌-◌, ◌≤◌}
+use Prim.Native.Nat.{◌≤◌}
 use mathlib.Core.Path.{◌≡◌, refl, sym, ap, ◌∙◌}
 use native.Mathlib.Omega.{arith}
 use lib.ListN.{length}
@@ -9,12 +9,12 @@ use Rattle.elements.proofs.LeastSoFar.{place_end}
 use Rattle.packed.specs.Packed.{bit_of, letters_at}
 use Rattle.packed.proofs.Packing.{letters_by-length}
 use Rattle.rotation.proofs.Ties.{ties-small, ties_end}
-use Rattle.rotation.proofs.Walks.{Walked, walked_start, walked_next}
+use Rattle.rotation.proofs.Walks.{walked_start, walked_next}
 use Rattle.rotation.proofs.walk.walk_least.Goals as goal
 
 pub loop-i-init : goal.loop-i-init
 loop-i-init c =
-    let gs = generators_in c.args.generators c.args.sites c.args.targets.now c.args.orders.now in
+    let gs = generators_in c.args.group.now.generators c.args.group.now.sites c.args.group.now.targets.now c.args.group.now.orders.now in
     let p = c.requires.planes in
     (omega arith, rw (p.1, p.2) (walked_start gs p.0), refl, refl)
 
@@ -22,8 +22,8 @@ pub take_lead-lead-requires : goal.take_lead-lead-requires
 take_lead-lead-requires c =
     let even : length c.loop-i.z ≡ length c.loop-i.zs = c.loop-i.invariant.2 ∙ sym (c.loop-i.invariant.3 ∙ ap length c.requires.planes.2) in
     let counted : c.loop-i.lead.ties ≤ max_order = let l = c.loop-i in
-    let gs = generators_in c.args.generators c.args.sites c.args.targets.now c.args.orders.now in
-    let w = letters_at c.args.sites c.args.x.now c.args.z.now in
+    let gs = generators_in c.args.group.now.generators c.args.group.now.sites c.args.group.now.targets.now c.args.group.now.orders.now in
+    let w = letters_at c.args.group.now.sites c.args.x.now c.args.z.now in
     omega (arith, l.invariant.1.counted, ties-small gs w l.i, l.invariant.0, c.requires.tables.small, c.requires.order_value) in
     let a = c.loop-i.invariant.1 in
     let long = a.best.x_long in record {
@@ -40,18 +40,11 @@ advance-requires c = record {
   planes_2 = c.loop-i.invariant.1.here;
 }
 
-pub overflow_add-i : goal.overflow_add-i
-overflow_add-i c =
-    omega (arith, c.requires.tables.small, c.requires.order_value, c.loop-i-test.true)
-
-pub loop-i-smaller : goal.loop-i-smaller
-loop-i-smaller c = omega (arith, c.loop-i-test.true)
-
 pub loop-i-preserved : goal.loop-i-preserved
 loop-i-preserved c =
     let l = c.loop-i in
-    let w = letters_at c.args.sites c.args.x.now c.args.z.now in
-    let long = letters_by-length c.args.sites (bit_of c.args.x.now) (bit_of c.args.z.now) in (
+    let w = letters_at c.args.group.now.sites c.args.x.now c.args.z.now in
+    let long = letters_by-length c.args.group.now.sites (bit_of c.args.x.now) (bit_of c.args.z.now) in (
       omega (arith, c.loop-i-test.true),
       walked_next c.requires.tables.valid long l.invariant.1 c.advance.ensures.planes c.advance.ensures.letters c.take_lead-lead.ensures.x c.take_lead-lead.ensures.z c.take_lead-lead.ensures.index c.take_lead-lead.ensures.ties,
       c.advance.auto.z ∙ l.invariant.2,
@@ -61,9 +54,9 @@ loop-i-preserved c =
 pub returns : goal.returns
 returns c =
     let l = c.loop-i in
-    let gs = generators_in c.args.generators c.args.sites c.args.targets.now c.args.orders.now in
-    let w = letters_at c.args.sites c.args.x.now c.args.z.now in
-    let long = letters_by-length c.args.sites (bit_of c.args.x.now) (bit_of c.args.z.now) in
+    let gs = generators_in c.args.group.now.generators c.args.group.now.sites c.args.group.now.targets.now c.args.group.now.orders.now in
+    let w = letters_at c.args.group.now.sites c.args.x.now c.args.z.now in
+    let long = letters_by-length c.args.group.now.sites (bit_of c.args.x.now) (bit_of c.args.z.now) in
     let all : l.i ≡ order_of gs = omega (arith, l.invariant.0, c.loop-i-test.false, c.requires.order_value) in record {
       index = l.invariant.1.first ∙ place_end gs w l.i all;
       ties = l.invariant.1.counted ∙ ties_end c.requires.tables.valid w long l.i all;

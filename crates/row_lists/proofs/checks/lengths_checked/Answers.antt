@@ -1,11 +1,7 @@
 -- `checks::lengths_checked` meets its contract: each return is reached by the tests that decide it.
-use mathlib.Core.Path.{◌≡◌, sym, ap, ◌∙◌}
-use mathlib.Core.Bool.{true}
+use mathlib.Core.Path.{sym, ap, ◌∙◌}
 use borrow.Author.Tests.{not-true, not-false}
-use borrow.Author.Rules.{rules}
 use Rattle.pauli_word.specs.Calls.{past_old}
-use Rattle.row_lists.specs.Rows.{row_size}
-use Rattle.row_lists.specs.Checks.{rows_agree}
 use Rattle.row_lists.proofs.ListChecks.{lengths-disagree, lengths-many, lengths-old, lengths-pass}
 use Rattle.row_lists.proofs.checks.lengths_checked.Goals as goal
 

@@ -1,6 +1,5 @@
 -- `checks::row_in_full` meets its contract: the part that is handed on is the row (`part_by`).
 use mathlib.Core.Path.{ap, ◌∙◌}
-use borrow.Author.Rules.{rules}
 use Rattle.pauli_word.specs.Bytes.{in_full}
 use Rattle.row_lists.proofs.Rows.{part_by}
 use Rattle.row_lists.proofs.InFull.{part-either}

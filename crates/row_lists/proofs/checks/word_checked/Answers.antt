@@ -2,7 +2,6 @@
 use mathlib.Core.Path.{◌≡◌, sym, ap, ◌∙◌}
 use mathlib.Core.List.{List}
 use Prim.Native.Nat.{ℕ}
-use borrow.Author.Rules.{rules}
 use Rattle.pauli_word.specs.Bytes.{in_full}
 use Rattle.pauli_word.specs.Calls.{clear_above}
 use Rattle.row_lists.specs.Rows.{row_by}

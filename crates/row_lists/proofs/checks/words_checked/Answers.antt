@@ -1,10 +1,7 @@
-use Prim.Native.Nat.{◌-◌, ◌≤◌}
-use mathlib.Core.Path.{◌≡◌, sym, ap, ◌∙◌}
+use Rattle.outcome.proofs.Outcomes.{handed_on}
+use mathlib.Core.Path.{sym, ap, ◌∙◌}
 use native.Mathlib.Omega.{arith}
-use borrow.Author.Rules.{rules}
-use Rattle.outcome.specs.Outcome.{outcome_of_verdict, verdict}
-use Rattle.row_lists.specs.Rows.{in_full_by}
-use Rattle.row_lists.specs.Checks.{bits_above_sites}
+use Rattle.outcome.specs.Outcome.{outcome_of}
 use Rattle.row_lists.proofs.InFull.{row_inside}
 use Rattle.row_lists.proofs.WordLists.{words-start, words-refused, words-pass, words-end}
 use Rattle.row_lists.proofs.checks.words_checked.Goals as goal
@@ -20,13 +17,14 @@ word_checked-requires c = record {
   size_in_bounds = row_inside c.args.size c.args.rows c.args.words.now c.requires.1 c.loop-i.i c.loop-i-test.true;
 }
 
-pub returns-in-Refused : goal.returns-in-Refused
-returns-in-Refused c =
-    let a = c.args in
+pub returns-in_err-word_checked : goal.returns-in_err-word_checked
+returns-in_err-word_checked c =
+    ap outcome_of (handed_on c.from_residual.result c.from_residual.ensures.1)
+    ∙ (let a = c.args in
     sym
     (c.loop-i.invariant.1
-    ∙ words-refused a.sites a.size a.rows a.words.now c.requires.0 c.requires.1 c.loop-i.i c.in-Refused.why c.loop-i-test.true
-    (sym c.word_checked.ensures ∙ ap outcome_of_verdict c.in-Refused.is))
+    ∙ words-refused a.sites a.size a.rows a.words.now c.requires.0 c.requires.1 c.loop-i.i c.in_err-word_checked.field-0.0 c.loop-i-test.true
+    (sym c.word_checked.ensures ∙ ap outcome_of c.in_err-word_checked.was)))
 
 pub loop-i-preserved : goal.loop-i-preserved
 loop-i-preserved c =
@@ -34,7 +32,7 @@ loop-i-preserved c =
       omega (arith, c.loop-i-test.true),
       c.loop-i.invariant.1
           ∙ words-pass a.sites a.size a.rows a.words.now c.requires.0 c.requires.1 c.loop-i.i c.loop-i-test.true
-          (sym c.word_checked.ensures ∙ ap outcome_of_verdict c.in-Accepted.is),
+          (sym c.word_checked.ensures ∙ ap outcome_of c.in_ok-word_checked.was),
     )
 
 pub returns : goal.returns

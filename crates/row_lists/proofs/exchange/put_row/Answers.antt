@@ -2,7 +2,6 @@
 use Prim.Native.Nat.{ℕ}
 use mathlib.Core.Path.{ap, ◌∙◌}
 use mathlib.Core.List.{List}
-use borrow.Author.Rules.{rules}
 use Rattle.row_lists.specs.Rows.{with_row}
 use Rattle.row_lists.proofs.Rows.{part-written}
 use Rattle.row_lists.proofs.exchange.put_row.Goals as goal

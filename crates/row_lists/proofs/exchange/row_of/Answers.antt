@@ -1,6 +1,5 @@
 -- `exchange::row_of` meets its contract: the part that is copied is the row (`part-row`).
 use mathlib.Core.Path.{◌∙◌}
-use borrow.Author.Rules.{rules}
 use Rattle.row_lists.proofs.Rows.{part-row}
 use Rattle.row_lists.proofs.exchange.row_of.Goals as goal
 

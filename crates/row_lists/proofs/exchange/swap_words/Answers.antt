@@ -1,5 +1,4 @@
 -- `exchange::swap_words` meets its contract: the rows that it reads and writes are those of `rowsSwapped`.
-use borrow.Author.Rules.{rules}
 use Rattle.row_lists.proofs.Rows.{rows_swapped_lem}
 use Rattle.row_lists.proofs.exchange.swap_words.Goals as goal
 

@@ -1,7 +1,4 @@
 -- `exchange::tell_owner` meets its contract: it looks whether the place waits for the row at k, as the definitions do.
-use native.Mathlib.Omega.{arith}
-use borrow.Author.Rules.{rules}
-use lib.ListN.{get_or}
 use Rattle.row_lists.proofs.Arranging.{told-positions, told-owners, kept-positions, kept-owners}
 use Rattle.row_lists.proofs.exchange.tell_owner.Goals as goal
 

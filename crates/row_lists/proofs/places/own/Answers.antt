@@ -1,6 +1,5 @@
-use Prim.Native.Nat.{◌-◌, ◌≤◌}
 use native.Mathlib.Omega.{arith}
-use Rattle.row_lists.proofs.Arranging.{Owning, owning_start, owning_next, owning_end}
+use Rattle.row_lists.proofs.Arranging.{owning_start, owning_next, owning_end}
 use Rattle.row_lists.proofs.places.own.Goals as goal
 
 pub loop-k-init : goal.loop-k-init
@@ -24,12 +23,6 @@ pub bounds-owners-at : goal.bounds-owners-at
 bounds-owners-at c =
     let p = c.requires.positions in
     omega (arith, p.inside c.loop-k.k c.loop-k-test.true)
-
-pub overflow_add-k : goal.overflow_add-k
-overflow_add-k c = omega arith
-
-pub loop-k-smaller : goal.loop-k-smaller
-loop-k-smaller c = omega arith
 
 pub loop-k-preserved : goal.loop-k-preserved
 loop-k-preserved c =

@@ -1,9 +1,8 @@
-use Prim.Native.Nat.{◌-◌, ◌≤◌}
-use mathlib.Core.Path.{refl, sym, ◌∙◌}
+use mathlib.Core.Path.{refl, sym}
 use native.Mathlib.Omega.{arith}
 use Rattle.row_lists.specs.Rows.{max_rows}
 use Rattle.row_lists.proofs.Arranging.{positions_all, zeros_small}
-use Rattle.row_lists.proofs.Placing.{Placing, placing-start, here-inside, from-inside, placing-next, placing-end}
+use Rattle.row_lists.proofs.Placing.{placing-start, here-inside, from-inside, placing-next, placing-end}
 use Rattle.row_lists.proofs.places.place_rows.Goals as goal
 
 pub own-requires : goal.own-requires
@@ -33,12 +32,6 @@ place_row-requires c =
       word_length_in_bounds = here-inside h p;
       word_length_in_bounds_2 = from-inside h p;
     }
-
-pub overflow_add-k : goal.overflow_add-k
-overflow_add-k c = omega arith
-
-pub loop-k-smaller : goal.loop-k-smaller
-loop-k-smaller c = omega arith
 
 pub loop-k-preserved : goal.loop-k-preserved
 loop-k-preserved c =

@@ -1,7 +1,6 @@
 -- `fold::fold_words` meets its contract: all rows are merged, each home is given its place, and the words are arranged (`Arranged`).
 use mathlib.Core.Path.{refl, ◌∙◌}
 use native.Mathlib.Omega.{arith}
-use borrow.Author.Rules.{rules}
 use Rattle.row_lists.specs.Rows.{max_rows}
 use Rattle.row_lists.proofs.Arranging.{positions_all, zeros_small}
 use Rattle.row_words.proofs.Arranged.{different-used, held-positions, home-small, words-folded, places-folded}

@@ -1,9 +1,9 @@
-use Prim.Native.Nat.{◌-◌, ◌≤◌, ◌<◌}
+use Prim.Native.Nat.{◌<◌}
 use mathlib.Core.Path.{◌≡◌, ◌∙◌}
 use native.Mathlib.Omega.{arith}
 use lib.ListN.{length, get_or}
 use Rattle.row_lists.specs.Rows.{max_rows}
-use Rattle.row_words.proofs.Arranged.{HomesPlaced, homes_start, homes_next}
+use Rattle.row_words.proofs.Arranged.{homes_start, homes_next}
 use Rattle.row_words.proofs.fold.place_homes.Goals as goal
 use Rattle.row_words.proofs.fold.place_homes.Lts as lts
 use Rattle.row_words.proofs.fold.place_homes.Tie as tie
@@ -51,12 +51,6 @@ offset_bounds-homes-i-in-loop-i c = record { fits = omega (arith, inside c.befor
 
 pub bounds-homes-i-in-loop-i : goal.bounds-homes-i-in-loop-i
 bounds-homes-i-in-loop-i c = inside c.before.before.before
-
-pub overflow_add-i : goal.overflow_add-i
-overflow_add-i c = record { fits = omega (arith, inside c.before.before.before, long c.before.before.before) }
-
-pub loop-i-smaller : goal.loop-i-smaller
-loop-i-smaller c = omega (arith, c.loop-i-test.true)
 
 pub loop-i-preserved : goal.loop-i-preserved
 loop-i-preserved c =

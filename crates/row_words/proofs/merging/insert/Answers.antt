@@ -1,4 +1,4 @@
-use Prim.Native.Nat.{◌-◌, ◌≤◌}
+use Prim.Native.Nat.{◌+◌, ◌-◌}
 use mathlib.Core.Path.{◌≡◌, subst, ◌∙◌}
 use native.Mathlib.Omega.{arith}
 use lib.ListN.{length-set}
@@ -8,31 +8,11 @@ use Rattle.row_words.proofs.merging.insert.Goals as goal
 pub loop-i-init : goal.loop-i-init
 loop-i-init c = (c.requires.k_le_used, omega arith, shift-start 0 c.args.positions.now c.args.used c.requires.used_in_bounds)
 
-pub overflow_sub-positions : goal.overflow_sub-positions
-overflow_sub-positions c = omega (arith, c.loop-i-test.true)
-
-pub offset_bounds-positions-i : goal.offset_bounds-positions-i
-offset_bounds-positions-i c = omega (arith)
-
-pub bounds-positions-i : goal.bounds-positions-i
-bounds-positions-i c = omega (arith)
-
-pub offset_bounds-positions-i-in-loop-i : goal.offset_bounds-positions-i-in-loop-i
-offset_bounds-positions-i-in-loop-i c = omega (arith)
-
-pub bounds-positions-i-in-loop-i : goal.bounds-positions-i-in-loop-i
-bounds-positions-i-in-loop-i c = omega (arith)
-
-pub overflow_sub-i : goal.overflow_sub-i
-overflow_sub-i c = omega (arith)
-
-pub loop-i-smaller : goal.loop-i-smaller
-loop-i-smaller c = omega (arith)
-
 pub loop-i-preserved : goal.loop-i-preserved
 loop-i-preserved c =
     let l = c.loop-i in
-    (omega (arith, c.loop-i-test.true), omega (arith, l.invariant.1), shift-next 0 c.args.positions.now c.args.used c.requires.used_in_bounds l.positions l.i (omega (arith, c.loop-i-test.true)) l.invariant.1 l.invariant.2)
+    let back : l.i - 1 + 1 ≡ l.i = omega (arith, c.loop-i-test.true) in
+    (omega (arith, c.loop-i-test.true), omega (arith, l.invariant.1), rw back (shift-next 0 c.args.positions.now c.args.used c.requires.used_in_bounds l.positions l.i (omega (arith, c.loop-i-test.true)) l.invariant.1 l.invariant.2))
 
 pub offset_bounds-positions-k : goal.offset_bounds-positions-k
 offset_bounds-positions-k c = omega (arith)

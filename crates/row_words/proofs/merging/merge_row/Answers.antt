@@ -4,7 +4,6 @@ use mathlib.Core.Path.{◌≡◌, sym, ap, ◌∙◌}
 use mathlib.Core.List.{map}
 use native.Mathlib.Omega.{arith}
 use lib.ListN.{take}
-use borrow.Author.Rules.{rules}
 use Rattle.keyed.specs.Keyed.{slot_of, found, free}
 use Rattle.row_lists.specs.Rows.{max_rows, row_at}
 use Rattle.row_words.specs.Words.{less_bytes}
@@ -50,8 +49,8 @@ module _ (c : ctx-After-k2) where
 
   is_free :
       slot_of less_bytes (row_at start2.args.words.now start2.args.row) (map (row_at start2.args.words.now) (take start2.args.used start2.args.positions.now))
-      ≡ free c.k-in-Free-1.given.0.0
-  is_free = sym c.slot_of.ensures ∙ ap slot_found c.k-in-Free-1.given.1
+      ≡ free c.k-in-Err-1.given.0.0
+  is_free = sym c.slot_of.ensures ∙ ap slot_found c.k-in-Err-1.given.1
 
 pub slot_of-requires : goal.slot_of-requires
 slot_of-requires c = held-places c.requires.held c.requires.word_length_in_bounds
@@ -65,16 +64,16 @@ bounds-positions-k c = omega (arith, place (lts.walk_of-After-known_told tie.the
 pub insert-requires : goal.insert-requires
 insert-requires c =
     let s = start2 (lts.walk_of-After-known_told2 tie.the-claims reads.Pre reads.Post tie.handed_clauses c.before.before).before in record {
-      k_le_used = free-place c.requires.held c.requires.word_length_in_bounds c.in-Free.k (is_free (lts.walk_of-After-known_told2 tie.the-claims reads.Pre reads.Post tie.handed_clauses c.before.before).before);
-      used_in_bounds = free-room c.requires.held c.requires.word_length_in_bounds c.in-Free.k (is_free (lts.walk_of-After-known_told2 tie.the-claims reads.Pre reads.Post tie.handed_clauses c.before.before).before);
+      k_le_used = free-place c.requires.held c.requires.word_length_in_bounds c.in-Err.k (is_free (lts.walk_of-After-known_told2 tie.the-claims reads.Pre reads.Post tie.handed_clauses c.before.before).before);
+      used_in_bounds = free-room c.requires.held c.requires.word_length_in_bounds c.in-Err.k (is_free (lts.walk_of-After-known_told2 tie.the-claims reads.Pre reads.Post tie.handed_clauses c.before.before).before);
     }
 
-pub returns-in-Found : goal.returns-in-Found
-returns-in-Found c =
+pub returns-in-Ok : goal.returns-in-Ok
+returns-in-Ok c =
     let s = start (lts.walk_of-After-known_told tie.the-claims reads.Pre reads.Post tie.handed_clauses c.before.before).before in
-    held_found c.requires.held c.requires.word_length_in_bounds c.in-Found.k (is_found (lts.walk_of-After-known_told tie.the-claims reads.Pre reads.Post tie.handed_clauses c.before.before).before)
+    held_found c.requires.held c.requires.word_length_in_bounds c.in-Ok.k (is_found (lts.walk_of-After-known_told tie.the-claims reads.Pre reads.Post tie.handed_clauses c.before.before).before)
 
-pub returns-in-Free : goal.returns-in-Free
-returns-in-Free c =
+pub returns-in-Err : goal.returns-in-Err
+returns-in-Err c =
     let s = start2 (lts.walk_of-After-known_told2 tie.the-claims reads.Pre reads.Post tie.handed_clauses c.before.before.before.before.before).before in
-    held-free c.requires.held c.requires.word_length_in_bounds c.in-Free.k (is_free (lts.walk_of-After-known_told2 tie.the-claims reads.Pre reads.Post tie.handed_clauses c.before.before.before.before.before).before) c.insert.new.positions c.insert.ensures.length c.insert.ensures.list
+    held-free c.requires.held c.requires.word_length_in_bounds c.in-Err.k (is_free (lts.walk_of-After-known_told2 tie.the-claims reads.Pre reads.Post tie.handed_clauses c.before.before.before.before.before).before) c.insert.new.positions c.insert.ensures.length c.insert.ensures.list

@@ -1,5 +1,5 @@
-use Prim.Native.Nat.{ℕ, ◌-◌, ◌≤◌}
-use mathlib.Core.Path.{◌≡◌, sym, subst, ◌∙◌}
+use Prim.Native.Nat.{ℕ}
+use mathlib.Core.Path.{◌≡◌, subst}
 use native.Mathlib.Omega.{arith}
 use Rattle.pauli_word.proofs.Planes.{bytes_of_lem}
 use Rattle.row_words.specs.Held.{Held}
@@ -16,12 +16,6 @@ merge_row-used-requires c = record {
   held = c.loop-i.invariant.1;
   word_length_in_bounds = omega (arith, c.requires.rows_in_bounds, c.loop-i-test.true);
 }
-
-pub overflow_add-i : goal.overflow_add-i
-overflow_add-i c = record { fits = omega (arith, c.loop-i-test.true, c.requires.word_length_len_bound, c.requires.rows_in_bounds) }
-
-pub loop-i-smaller : goal.loop-i-smaller
-loop-i-smaller c = omega (arith, c.loop-i-test.true)
 
 pub loop-i-preserved : goal.loop-i-preserved
 loop-i-preserved c = (omega (arith, c.loop-i-test.true), c.merge_row-used.ensures)

@@ -1,14 +1,7 @@
 -- `merging::merge_rows` meets its contract. The loop's invariant: the first i rows are merged.
-use Prim.Native.Nat.{ℕ, ◌-◌, ◌≤◌}
-use mathlib.Core.Path.{◌≡◌, sym, subst, ◌∙◌}
-use native.Mathlib.Omega.{arith}
-use Rattle.pauli_word.proofs.Planes.{bytes_of_lem}
+use Prim.Native.Nat.{◌≤◌}
 use Rattle.row_words.specs.Held.{Held}
-use Rattle.row_words.proofs.WordMerging.{held_start}
 use Rattle.row_words.proofs.merging.merge_rows.Given as goal
 
 abbrev pub invariant-loop-i : goal.invariant-loop-i
 invariant-loop-i l = (l.i ≤ l.rows) × Held l.words l.i l.used l.positions l.homes
-
-abbrev pub decreases-loop-i : goal.decreases-loop-i
-decreases-loop-i l = l.rows - l.i

@@ -2,7 +2,6 @@
 use mathlib.Core.Path.{ap₂, ◌∙◌}
 use mathlib.Core.List.{List}
 use Prim.Native.Nat.{ℕ}
-use borrow.Author.Rules.{rules}
 use Rattle.pauli_word.specs.Bytes.{plane_bits}
 use Rattle.pauli_word.specs.Calls.{order_of_bits}
 use Rattle.row_lists.proofs.Rows.{part-row}

@@ -1,10 +1,9 @@
 use Prim.Native.Nat.{ℕ, ◌+◌, ◌-◌, ◌/◌, ◌≤◌, ◌<◌}
 use mathlib.Core.Path.{sym, ◌∙◌}
 use native.Mathlib.Omega.{arith}
-use borrow.Author.Rules.{rules}
 use lib.ListN.{length}
 use Rattle.row_lists.specs.Rows.{max_rows}
-use Rattle.row_words.proofs.Searching.{Searching, below-used, search-start, search-up, search-down, search-found, search-free}
+use Rattle.row_words.proofs.Searching.{below-used, search-start, search-up, search-down, search-found, search-free}
 use Rattle.row_words.proofs.search.slot_of.Goals as goal
 use Rattle.row_words.proofs.search.slot_of.Lts as lts
 use Rattle.row_words.proofs.search.slot_of.Tie as tie
@@ -73,10 +72,10 @@ loop-low-preserved c =
     search-down c.requires c.loop-low.invariant (not-before c.before.before.before.before) (not_after c.before.before.before.before)
     (sym c.compare_rows.ensures ∙ c.in-Greater.is)
 
-pub returns-in-Same : goal.returns-in-Same
-returns-in-Same c =
+pub returns-in-Equal : goal.returns-in-Equal
+returns-in-Equal c =
     sym (search-found c.requires c.loop-low.invariant (not-before c.before.before.before.before) (not_after c.before.before.before.before)
-    (sym c.compare_rows.ensures ∙ c.in-Same.is))
+    (sym c.compare_rows.ensures ∙ c.in-Equal.is))
 
 pub returns : goal.returns
 returns c = sym (search-free c.requires c.loop-low.invariant c.loop-low-test.false)

@@ -1,12 +1,7 @@
 -- `search::slot_of` meets its contract. The loop's invariant: the words before `low` are less than the row's, and those from `high` on are
 -- greater (`Searching`).
-use Prim.Native.Nat.{ℕ, ◌+◌, ◌-◌, ◌/◌, ◌≤◌, ◌<◌}
-use mathlib.Core.Path.{sym, ◌∙◌}
-use native.Mathlib.Omega.{arith}
-use borrow.Author.Rules.{rules}
-use lib.ListN.{length}
-use Rattle.row_lists.specs.Rows.{max_rows}
-use Rattle.row_words.proofs.Searching.{Searching, below-used, search-start, search-up, search-down, search-found, search-free}
+use Prim.Native.Nat.{◌-◌}
+use Rattle.row_words.proofs.Searching.{Searching}
 use Rattle.row_words.proofs.search.slot_of.Given as goal
 
 abbrev pub invariant-loop-low : goal.invariant-loop-low

@@ -1,6 +1,5 @@
 -- `join::joined_index` meets its contract: by the tests.
 use Rattle.sector_parts.proofs.Joining.{taken_own, taken-index, taken-part, taken-sum}
-use borrow.Author.Rules.{rules}
 use Rattle.sector_parts.proofs.join.joined_index.Goals as goal
 
 pub returns-then-orbit-ne0 : goal.returns-then-orbit-ne0

@@ -1,7 +1,6 @@
 -- `join::joined_size` meets its contract: the product fits.
 use native.Mathlib.Nat.{mul-le-mul}
 use native.Mathlib.Omega.{arith}
-use borrow.Author.Rules.{rules}
 use Rattle.sector_parts.proofs.join.joined_size.Goals as goal
 
 pub overflow_mul-result : goal.overflow_mul-result

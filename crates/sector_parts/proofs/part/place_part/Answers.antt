@@ -3,7 +3,6 @@ use Rattle.parted.proofs.Replacing.{room-length}
 use Rattle.pauli_word.specs.Limits.{word_length}
 use lib.ListN.{length-replicate}
 use Prim.Native.Nat.{ℕ}
-use borrow.Author.Rules.{rules}
 use Rattle.sector_parts.proofs.part.place_part.Goals as goal
 
 pub place_in_codes-requires : goal.place_in_codes-requires
@@ -16,5 +15,5 @@ place_in_codes-requires c =
       modulus_value = c.requires.modulus_value;
       numbering = c.requires.numbering;
       accepted_word = ok;
-      codes_len = (room-length c.args.sites ok.sites, room-length c.args.m c.requires.tables.sites, word, word, l);
+      codes_len = (room-length c.args.sites ok.sites, room-length c.args.own_group.now.sites c.requires.tables.sites, word, word, l);
     }

@@ -1,4 +1,4 @@
-use Rattle.sector_parts.proofs.Passing.{RowsPassed, rows_none, rows_next}
+use Rattle.sector_parts.proofs.Passing.{rows_none, rows_next}
 use Rattle.row_lists.proofs.Rows.{part-row}
 use Rattle.row_lists.specs.Rows.{row_at, no_word}
 use Rattle.elements.proofs.Orbits.{part_length}
@@ -66,12 +66,6 @@ slice_bounds-clear_row-end c = omega (arith, room c.before.before)
 
 pub clear_row-requires : goal.clear_row-requires
 clear_row-requires c = part_length word_length c.loop-i.i c.loop-i.representatives (room c.before.before.before)
-
-pub overflow_add-i : goal.overflow_add-i
-overflow_add-i c = omega (arith, small c.before.before.before.before.before.before)
-
-pub loop-i-smaller : goal.loop-i-smaller
-loop-i-smaller c = omega (arith, c.loop-i-test.true)
 
 pub loop-i-preserved : goal.loop-i-preserved
 loop-i-preserved c =

@@ -5,7 +5,6 @@ use lib.ListN.{length, replicate}
 use mathlib.Core.Path.{◌≡◌, ap, ◌∙◌}
 use native.Mathlib.Omega.{arith}
 use borrow.Author.Tests.{ne_eqb, eq-eqb}
-use borrow.Author.Rules.{rules}
 use Rattle.sector_parts.proofs.rows.clear_row.Goals as goal
 
 pub returns-then-size-ne0 : goal.returns-then-size-ne0

@@ -8,7 +8,6 @@ use native.Mathlib.Omega.{arith}
 use Prim.Native.Nat.{ℕ}
 use mathlib.Core.List.{List}
 use mathlib.Core.Path.{sym, ap, ◌∙◌}
-use borrow.Author.Rules.{rules}
 use Rattle.sector_parts.proofs.rows.place_part_in.Goals as goal
 
 pub prepare-ready-requires : goal.prepare-ready-requires

@@ -1,5 +1,4 @@
 -- `by_parts::rows_by_parts` meets its contract: there is room for a label a generator and an owner a site.
-use borrow.Author.Rules.{rules}
 use Prim.Native.Nat.{ℕ}
 use lib.ListN.{length-replicate}
 use Rattle.pauli_word.specs.Limits.{max_sites}
@@ -14,5 +13,5 @@ rows_in_parts-requires c = record {
   accepted_rows = c.requires.accepted_rows;
   representatives_len = c.requires.representatives_len;
   sizes_len = c.requires.sizes_len;
-  labels_len = (labels_length c.args.generators c.requires.tables.few, length-replicate {A = ℕ} max_sites 0);
+  labels_len = (labels_length c.args.group.now.generators c.requires.tables.few, length-replicate {A = ℕ} max_sites 0);
 }

@@ -1,16 +1,13 @@
 -- `by_parts::rows_in_parts` meets its contract: the rows hold their words in full, and the parts decide each.
-use borrow.Author.Rules.{rules}
 use Prim.Native.Nat.{ℕ, ◌*◌, ◌<◌}
 use mathlib.Core.Path.{◌≡◌, sym, ap, ◌∙◌}
 use mathlib.Core.Bool.{false≢true}
-use mathlib.Core.List.{List}
 use native.Mathlib.Omega.{arith}
 use borrow.Author.Tests.{not-false}
 use lib.ListN.{length}
 use Rattle.pauli_word.specs.Limits.{word_length}
 use Rattle.pauli_word.specs.Word.{Word}
 use Rattle.pauli_word.specs.Bytes.{letters_in}
-use Rattle.action.specs.Permutation.{Generator}
 use Rattle.elements.specs.HeldGroup.{generators_in}
 use Rattle.row_lists.specs.Rows.{row_at, in_full_by}
 use Rattle.row_lists.proofs.InFull.{full-row, row-accepted}
@@ -49,20 +46,20 @@ returns c =
     let a = c.args in
     let k = length a.indices.now in
     let ks = a.modes.now in
-    let gs = generators_in a.generators a.sites a.targets.now a.orders.now in
+    let gs = generators_in a.group.now.generators a.group.now.sites a.group.now.targets.now a.group.now.orders.now in
     let full = in_full_by a.size k a.words.now in
     let (either, long) = c.requires.either_length in
     let same = c.take_in_full.auto.indices in
-    let letters : (i : ℕ) → i < k → letters_in a.sites (row_at c.take_in_full.new.representatives i) ≡ row_letters a.sites full i =
-    λ i h. ap (letters_in a.sites) ((c.take_in_full.ensures i h).0 ∙ sym (full-row a.size either k a.words.now long i h))
+    let letters : (i : ℕ) → i < k → letters_in a.group.now.sites (row_at c.take_in_full.new.representatives i) ≡ row_letters a.group.now.sites full i =
+    λ i h. ap (letters_in a.group.now.sites) ((c.take_in_full.ensures i h).0 ∙ sym (full-row a.size either k a.words.now long i h))
     in record {
       representatives = λ e.
-          words-by-row gs ks a.sites full k (c.place_rows.auto.representatives ∙ c.take_in_full.auto.representatives ∙ c.requires.representatives_len)
+          words-by-row gs ks a.group.now.sites full k (c.place_rows.auto.representatives ∙ c.take_in_full.auto.representatives ∙ c.requires.representatives_len)
           (λ i h. (c.place_rows.ensures i (omega (arith, same, h))).word ∙ ap (λ (w : Word). row_word (decision gs ks w)) (letters i h));
       indices = λ e.
-          indices-by-row gs ks a.sites full k (c.place_rows.auto.indices ∙ same)
+          indices-by-row gs ks a.group.now.sites full k (c.place_rows.auto.indices ∙ same)
           (λ i h. (c.place_rows.ensures i (omega (arith, same, h))).index ∙ ap (λ (w : Word). row_index (decision gs ks w)) (letters i h));
       sizes = λ e.
-          sizes-by-row gs ks a.sites full k (c.place_rows.auto.sizes ∙ c.take_ones.auto.sizes ∙ c.requires.sizes_len)
+          sizes-by-row gs ks a.group.now.sites full k (c.place_rows.auto.sizes ∙ c.take_ones.auto.sizes ∙ c.requires.sizes_len)
           (λ i h. (c.place_rows.ensures i (omega (arith, same, h))).size ∙ ap (λ (w : Word). row_orbit (decision gs ks w)) (letters i h));
     }

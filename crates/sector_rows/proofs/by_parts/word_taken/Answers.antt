@@ -1,7 +1,6 @@
 -- `by_parts::word_taken` meets its contract: where it is of no use the answer is no; else a word is rows of one.
-use borrow.Author.Rules.{rules}
 use Prim.Native.Nat.{ℕ}
-use mathlib.Core.Path.{◌≡◌, refl, sym, ap, subst, ◌∙◌}
+use mathlib.Core.Path.{refl, sym, ap, subst, ◌∙◌}
 use mathlib.Core.Bool.{false≢true}
 use mathlib.Core.Logic.{inl}
 use mathlib.Core.List.{List}
@@ -26,7 +25,7 @@ returns-then-not-is_worth c = record {
 pub rows_by_parts-requires : goal.rows_by_parts-requires
 rows_by_parts-requires c =
     let tables = c.requires.tables in let modes = c.requires.modes_len in let ok = c.requires.accepted_word in let (long, one, size) = c.requires.out_len in
-    let rows = subst (λ (k : ℕ). AcceptedRows c.args.sites (in_full_by word_length k c.args.word.now) k) (sym one) (one-rows ok) in record {
+    let rows = subst (λ (k : ℕ). AcceptedRows c.args.group.now.sites (in_full_by word_length k c.args.word.now) k) (sym one) (one-rows ok) in record {
       tables = tables;
       modes_len = modes;
       either_length = (inl refl, omega (arith, ok.long, one));
@@ -38,10 +37,10 @@ rows_by_parts-requires c =
 pub returns : goal.returns
 returns c =
     let a = c.args in
-    let gs = generators_in a.generators a.sites a.targets.now a.orders.now in
+    let gs = generators_in a.group.now.generators a.group.now.sites a.group.now.targets.now a.group.now.orders.now in
     let ks = a.modes.now in
     let tables = c.requires.tables in let modes = c.requires.modes_len in let ok = c.requires.accepted_word in let (long, one, size) = c.requires.out_len in record {
-      word = λ e. c.rows_by_parts.ensures.representatives e ∙ ap (λ (k : ℕ). sector_words (decided_rows gs ks a.sites (in_full_by word_length k a.word.now) k)) one ∙ one_word ok gs ks;
-      index = λ e. ap (λ (l : List ℕ). get_or l 0 0) (c.rows_by_parts.ensures.indices e ∙ ap (λ (k : ℕ). sector_indices (decided_rows gs ks a.sites (in_full_by word_length k a.word.now) k)) one) ∙ one_index ok gs ks;
-      size = λ e. ap (λ (l : List ℕ). get_or l 0 0) (c.rows_by_parts.ensures.sizes e ∙ ap (λ (k : ℕ). sector_sizes (decided_rows gs ks a.sites (in_full_by word_length k a.word.now) k)) one) ∙ one_size ok gs ks;
+      word = λ e. c.rows_by_parts.ensures.representatives e ∙ ap (λ (k : ℕ). sector_words (decided_rows gs ks a.group.now.sites (in_full_by word_length k a.word.now) k)) one ∙ one_word ok gs ks;
+      index = λ e. ap (λ (l : List ℕ). get_or l 0 0) (c.rows_by_parts.ensures.indices e ∙ ap (λ (k : ℕ). sector_indices (decided_rows gs ks a.group.now.sites (in_full_by word_length k a.word.now) k)) one) ∙ one_index ok gs ks;
+      size = λ e. ap (λ (l : List ℕ). get_or l 0 0) (c.rows_by_parts.ensures.sizes e ∙ ap (λ (k : ℕ). sector_sizes (decided_rows gs ks a.group.now.sites (in_full_by word_length k a.word.now) k)) one) ∙ one_size ok gs ks;
     }

@@ -1,5 +1,4 @@
 -- `rows::rows_by_path` meets its contract: there is room for the candidates.
-use borrow.Author.Rules.{rules}
 use mathlib.Core.Path.{◌∙◌}
 use native.Mathlib.Omega.{arith}
 use Rattle.rotation.proofs.Packs.{fresh-length}

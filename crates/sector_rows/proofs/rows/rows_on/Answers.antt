@@ -1,7 +1,6 @@
 -- `rows::rows_on` meets its contract: the parts have answered, or the path of the group is taken for each row.
-use borrow.Author.Rules.{rules}
 use Prim.Native.Nat.{ℕ, ◌*◌}
-use mathlib.Core.Path.{◌≡◌, sym, ap, subst, ◌∙◌}
+use mathlib.Core.Path.{sym, ap, subst, ◌∙◌}
 use Rattle.pauli_word.specs.Limits.{word_length}
 use Rattle.elements.specs.HeldGroup.{generators_in}
 use Rattle.row_lists.specs.Rows.{in_full_by}
@@ -28,7 +27,7 @@ rows_by_path-requires c =
       order_value = c.requires.order_value;
       modes_len = c.requires.modes_len;
       either_length = (either, long ∙ ap (λ (k : ℕ). a.size * k) same);
-      accepted_rows = subst (λ (k : ℕ). AcceptedRows a.sites (in_full_by a.size k a.words.now) k) same accepted;
+      accepted_rows = subst (λ (k : ℕ). AcceptedRows a.group.now.sites (in_full_by a.size k a.words.now) k) same accepted;
       representatives_len = r.representatives ∙ rows ∙ ap (λ (k : ℕ). word_length * k) same;
       sizes_len = r.sizes ∙ sizes ∙ same;
     }
@@ -36,10 +35,10 @@ rows_by_path-requires c =
 pub returns : goal.returns
 returns c =
     let a = c.args in
-    let gs = generators_in a.generators a.sites a.targets.now a.orders.now in
+    let gs = generators_in a.group.now.generators a.group.now.sites a.group.now.targets.now a.group.now.orders.now in
     let ks = a.modes.now in
     let same = c.rows_taken.auto.indices in record {
-      representatives = c.rows_by_path.ensures.representatives ∙ ap (λ (k : ℕ). sector_words (decided_rows gs ks a.sites (in_full_by a.size k a.words.now) k)) same;
-      indices = c.rows_by_path.ensures.indices ∙ ap (λ (k : ℕ). sector_indices (decided_rows gs ks a.sites (in_full_by a.size k a.words.now) k)) same;
-      sizes = c.rows_by_path.ensures.sizes ∙ ap (λ (k : ℕ). sector_sizes (decided_rows gs ks a.sites (in_full_by a.size k a.words.now) k)) same;
+      representatives = c.rows_by_path.ensures.representatives ∙ ap (λ (k : ℕ). sector_words (decided_rows gs ks a.group.now.sites (in_full_by a.size k a.words.now) k)) same;
+      indices = c.rows_by_path.ensures.indices ∙ ap (λ (k : ℕ). sector_indices (decided_rows gs ks a.group.now.sites (in_full_by a.size k a.words.now) k)) same;
+      sizes = c.rows_by_path.ensures.sizes ∙ ap (λ (k : ℕ). sector_sizes (decided_rows gs ks a.group.now.sites (in_full_by a.size k a.words.now) k)) same;
     }

@@ -1,7 +1,6 @@
 -- `word::placed_on` meets its contract: the parts have answered, or the path of the group is taken.
-use borrow.Author.Rules.{rules}
 use Prim.Native.Nat.{ℕ}
-use mathlib.Core.Path.{◌≡◌, refl, ap₂, ◌∙◌}
+use mathlib.Core.Path.{refl, ap₂, ◌∙◌}
 use mathlib.Core.Bool.{cond}
 use native.Mathlib.Omega.{arith}
 use lib.Dec.{eqb}
@@ -26,7 +25,7 @@ returns-then-word_taken c =
     let yes' = c.if-word_taken.true in record {
       answer = c.told.ensures
           ∙ ap₂ (λ (i n : ℕ). cond (eqb n 0) (Placement.Dropped i) (Placement.Kept i n)) (c.word_taken.ensures.index yes') (c.word_taken.ensures.size yes')
-          ∙ decided_told c.requires.tables.valid a.modes.now (letters_in a.sites a.word.now) (decode-length c.requires.accepted_word.0);
+          ∙ decided_told c.requires.tables.valid a.modes.now (letters_in a.group.now.sites a.word.now) (decode-length c.requires.accepted_word.0);
       word = c.word_taken.ensures.word yes';
     }
 

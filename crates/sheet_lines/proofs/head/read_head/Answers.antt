@@ -6,21 +6,20 @@ use mathlib.Core.Bool.{true}
 use mathlib.Core.List.{List}
 use native.Mathlib.Omega.{arith}
 use lib.ListN.{length, take, drop, length-drop}
-use mir.Syntax.{w64}
-use mir.Val.{Fits}
-use Rattle.outcome.specs.declared.Refusal.TheVariants as Refusal
-use Rattle.outcome.specs.declared.Verdict.{Verdict}
-use Rattle.outcome.specs.declared.Verdict.TheVariants as Verdict
-use Rattle.outcome.specs.Outcome.{verdict, answer, outcome_of_verdict, given}
+use borrow.Author.Rules.{rules}
+use Rattle.std.specs.Prelude.{Result, Ok, Err, IfOk, IfErr}
+use Rattle.outcome.specs.declared.Refusal.{Refusal}
+use Rattle.outcome.specs.Outcome.{verdict, answer, outcome_of}
 use Rattle.pauli_word.proofs.Words.{rest_part}
 use Rattle.action.specs.Lists.{same_numbers}
 use Rattle.text.specs.Text.{line_end, pieces}
 use Rattle.text.proofs.Lines.{front-part, Ended, ended, names_ends}
-use Rattle.sheet_lines.specs.Lines.{shape_names, word_names, modes_of, line_shape, line_sites, shape_checks, third_checks, second_checks, line_checks}
-use Rattle.sheet_lines.specs.Parts.{line_group, at_line}
+use Rattle.sheet_lines.specs.declared.LineFault.{LineFault}
 use Rattle.sheet_lines.specs.declared.line.Shape.{Shape}
-use Rattle.sheet_lines.proofs.Heads.{first_other_lem, first_passes, second_missing, second-refused, second-passes, third_other, head_refused, head-ready, body-within}
-use borrow.Author.Rules.{rules}
+use Rattle.sheet_lines.specs.Lines.{shape_names, word_names, modes_of, line_shape, line_sites, shape_checks, third_checks, second_checks, line_checks}
+use Rattle.sheet_lines.specs.Parts.{line_group, at_line, refused_at}
+use Rattle.sheet_lines.proofs.Heads.{first_other_lem, first_passes, second_missing, second-refused, second-passes, third_other, head-ready, body-within}
+use Rattle.sheet_lines.proofs.Faults.{placed, kept, handed_fault}
 use Rattle.sheet_lines.proofs.head.read_head.Goals as goal
 
 -- the text after a line that ends at k, as it is cut out
@@ -40,17 +39,25 @@ checks-a input a first =
     first_passes input a first.0 first.1 ∙ ap (λ l. verdict (second_checks (pieces line_end l))) (sym (after-is input a))
 
 -- what is told of the line with the shape
-abbrev Told : List ℕ → Shape → Type 0
-Told line shape =
-    ((k : ℕ) → at_line k (outcome_of_verdict shape.answer) ≡ verdict (shape_checks line k))
-    × (shape.answer ≡ Verdict.Accepted → (shape.kind ≡ line_shape line) × (shape.group ≡ line_group line))
+abbrev Told : List ℕ → Result Shape Refusal → Type 0
+Told line r =
+    ((k : ℕ) → at_line k (outcome_of r) ≡ verdict (shape_checks line k))
+    × IfOk r (λ shape. (shape.kind ≡ line_shape line) × (shape.group ≡ line_group line))
 
-told : (text : List ℕ) (b : ℕ) (shape : Shape) → Told (take (b - 0) text) shape → Told (take b text) shape
-told text b shape t = subst (λ l. Told l shape) (front-part b text) t
+module _ (text : List ℕ) (b : ℕ) (r : Result Shape Refusal) (t : Told (take (b - 0) text) r) where
+  told : Told (take b text) r
+  told = subst (λ l. Told l r) (front-part b text) t
 
--- it breaks no rule
-fine : (line : List ℕ) (shape : Shape) → Told line shape → shape.answer ≡ Verdict.Accepted → verdict (shape_checks line 2) ≡ answer tt
-fine line shape t e = sym (t.0 2) ∙ ap (λ (v : Verdict). at_line 2 (outcome_of_verdict v)) e
+  -- it breaks no rule
+  fine : (shape : Shape) → r ≡ Ok shape → verdict (shape_checks (take b text) 2) ≡ answer tt
+  fine shape e = sym (told.0 2) ∙ ap (λ (r : Result Shape Refusal). at_line 2 (outcome_of r)) e
+
+  shaped : (shape : Shape) → r ≡ Ok shape → (shape.kind ≡ line_shape (take b text)) × (shape.group ≡ line_group (take b text))
+  shaped shape e = subst (λ r. IfOk r (λ (s : Shape). (s.kind ≡ line_shape (take b text)) × (s.group ≡ line_group (take b text)))) e told.1
+
+  -- or one
+  broken : (why : Refusal) → r ≡ Err why → refused_at why 2 ≡ verdict (shape_checks (take b text) 2)
+  broken why e = sym (ap (λ (r : Result Shape Refusal). at_line 2 (outcome_of r)) e) ∙ told.0 2
 
 -- the checks are those from the third line on
 checks-b : (input : List ℕ) (a b : ℕ) → First input a
@@ -70,133 +77,120 @@ within input a b c first second third =
     body-within input (after input a) (after (after input a) b) a b c first.0 (after-is input a) second (after-is (after input a) b) third
 
 pub returns-in_default : goal.returns-in_default
-returns-in_default c =
-    let input = c.args.input.now in
-    let back = head_refused input c.no_head.result Refusal.LineForm 1 c.no_head.ensures (omega arith)
-    (first_other_lem input (sym c.names_end.ensures ∙ c.in_default.is)) in record {
-      fault = back.0;
-      ready = back.1;
-    }
+returns-in_default c = record {
+  fault = (first_other_lem c.args.input.now (sym c.names_end.ensures ∙ c.in_default.is), omega arith);
+  ready = tt;
+}
 
 pub overflow_add-text : goal.overflow_add-text
 overflow_add-text c =
-    let input = c.args.input.now in
-    let first = names_ends shape_names input c.in-End.a (sym c.names_end.ensures ∙ c.in-End.is) in
+    let first = names_ends shape_names c.args.input.now c.in-Some.a (sym c.names_end.ensures ∙ c.in-Some.is) in
     omega (arith, first.0, c.well_formed)
 
 pub slice_bounds-text-count : goal.slice_bounds-text-count
 slice_bounds-text-count c =
-    let input = c.args.input.now in
-    let first = names_ends shape_names input c.in-End.a (sym c.names_end.ensures ∙ c.in-End.is) in
+    let first = names_ends shape_names c.args.input.now c.in-Some.a (sym c.names_end.ensures ∙ c.in-Some.is) in
     omega (arith, first.0)
 
 pub slice_bounds-text-start : goal.slice_bounds-text-start
 slice_bounds-text-start c =
-    let input = c.args.input.now in
-    let first = names_ends shape_names input c.in-End.a (sym c.names_end.ensures ∙ c.in-End.is) in
+    let first = names_ends shape_names c.args.input.now c.in-Some.a (sym c.names_end.ensures ∙ c.in-Some.is) in
     omega (arith, first.0)
 
 pub returns-then-b-text : goal.returns-then-b-text
 returns-then-b-text c =
     let input = c.args.input.now in
-    let first = names_ends shape_names input c.in-End.a (sym c.names_end.ensures ∙ c.in-End.is) in
-    let text = after input c.in-End.a in
-    let back = head_refused input c.no_head-then-b-text.result Refusal.LineForm 2 c.no_head-then-b-text.ensures (omega arith)
-    (second_missing text c.find-b.result c.find-b.ensures c.if-b-text.true ∙ sym (checks-a input c.in-End.a first)) in record {
-      fault = back.0;
-      ready = back.1;
+    let a = c.in-Some.a in
+    let first = names_ends shape_names input a (sym c.names_end.ensures ∙ c.in-Some.is) in record {
+      fault = (second_missing (after input a) c.find-b.result c.find-b.ensures c.if-b-text.true ∙ sym (checks-a input a first), omega arith);
+      ready = tt;
     }
 
 pub slice_bounds-read_shape-end : goal.slice_bounds-read_shape-end
 slice_bounds-read_shape-end c =
-    let input = c.args.input.now in
-    let text = after input c.in-End.a in
-    let second = ended text c.find-b.result c.find-b.ensures c.if-b-text.false in
-    omega (arith, second)
+    let text = after c.args.input.now c.in-Some.a in
+    omega (arith, ended text c.find-b.result c.find-b.ensures c.if-b-text.false)
 
-pub returns-in-Refused : goal.returns-in-Refused
-returns-in-Refused c =
+pub returns-in_err-shape-clause-fault : goal.returns-in_err-shape-clause-fault
+returns-in_err-shape-clause-fault c =
     let input = c.args.input.now in
-    let first = names_ends shape_names input c.in-End.a (sym c.names_end.ensures ∙ c.in-End.is) in
-    let text = after input c.in-End.a in
-    let second = ended text c.find-b.result c.find-b.ensures c.if-b-text.false in
-    let it = told text c.find-b.result c.read_shape-shape.result (c.read_shape-shape.ensures.answer, c.read_shape-shape.ensures.group) in
-    let e = ap (λ (v : Verdict). at_line 2 (outcome_of_verdict v)) (sym c.in-Refused.is) ∙ it.0 2 in
-    let back = head_refused input c.no_head-in-Refused.result c.in-Refused.why 2 c.no_head-in-Refused.ensures (omega arith)
-    (second-refused text c.find-b.result second c.in-Refused.why e ∙ sym (checks-a input c.in-End.a first)) in record {
-      fault = back.0;
-      ready = back.1;
-    }
+    let a = c.in-Some.a in
+    let b = c.find-b.result in
+    let first = names_ends shape_names input a (sym c.names_end.ensures ∙ c.in-Some.is) in
+    let text = after input a in
+    let second = ended text b c.find-b.ensures c.if-b-text.false in
+    let (why, told, is) = placed 2 c.read_shape.result c.map_err.result c.map_err.ensures.cases c.in_err-shape.was (λ e f k. search rules) in
+    let e = second-refused text b second why (broken text b c.read_shape.result (c.read_shape.ensures.answer, c.read_shape.ensures.shape) why told) in
+    let fault : LineFault → Type 0 = (λ fault. (refused_at fault.why fault.line ≡ verdict (line_checks (pieces line_end input))) × (fault.line ≤ 3)) in
+    subst (λ r. IfErr r fault) (sym (handed_fault c.from_residual.result c.from_residual.ensures.1))
+    (subst fault (sym is) (e ∙ sym (checks-a input a first), omega arith))
 
 pub overflow_add-rest : goal.overflow_add-rest
 overflow_add-rest c =
     let input = c.args.input.now in
-    let text = after input c.in-End.a in
-    let second = ended text c.find-b.result c.find-b.ensures c.if-b-text.false in
-    omega (arith, second, ap length (after-is input c.in-End.a), length-drop (c.in-End.a + 1) input, c.well_formed)
+    let a = c.in-Some.a in
+    let second = ended (after input a) c.find-b.result c.find-b.ensures c.if-b-text.false in
+    omega (arith, second, ap length (after-is input a), length-drop (a + 1) input, c.well_formed)
 
 pub slice_bounds-rest-count : goal.slice_bounds-rest-count
 slice_bounds-rest-count c =
-    let input = c.args.input.now in
-    let text = after input c.in-End.a in
-    let second = ended text c.find-b.result c.find-b.ensures c.if-b-text.false in
-    omega (arith, second)
+    let text = after c.args.input.now c.in-Some.a in
+    omega (arith, ended text c.find-b.result c.find-b.ensures c.if-b-text.false)
 
 pub slice_bounds-rest-start : goal.slice_bounds-rest-start
 slice_bounds-rest-start c =
-    let input = c.args.input.now in
-    let text = after input c.in-End.a in
-    let second = ended text c.find-b.result c.find-b.ensures c.if-b-text.false in
-    omega (arith, second)
+    let text = after c.args.input.now c.in-Some.a in
+    omega (arith, ended text c.find-b.result c.find-b.ensures c.if-b-text.false)
 
 pub returns-in_default-names_end : goal.returns-in_default-names_end
 returns-in_default-names_end c =
     let input = c.args.input.now in
-    let first = names_ends shape_names input c.in-End.a (sym c.names_end.ensures ∙ c.in-End.is) in
-    let text = after input c.in-End.a in
-    let second = ended text c.find-b.result c.find-b.ensures c.if-b-text.false in
-    let it = told text c.find-b.result c.read_shape-shape.result (c.read_shape-shape.ensures.answer, c.read_shape-shape.ensures.group) in
-    let good = fine (take c.find-b.result text) c.read_shape-shape.result it c.in_default-answer.is in
-    let line = take c.find-b.result text in
-    let e = sym c.names_end-2.ensures ∙ c.in_default-names_end.is in
-    let back = head_refused input c.no_head-in_default-names_end.result Refusal.LineForm 3 c.no_head-in_default-names_end.ensures (omega arith)
-    (third_other (modes_of (line_shape line)) (line_sites line) (after text c.find-b.result) e
-    ∙ sym (checks-b input c.in-End.a c.find-b.result first second good)) in record {
-      fault = back.0;
-      ready = back.1;
+    let a = c.in-Some.a in
+    let b = c.find-b.result in
+    let first = names_ends shape_names input a (sym c.names_end.ensures ∙ c.in-Some.is) in
+    let text = after input a in
+    let second = ended text b c.find-b.ensures c.if-b-text.false in
+    let good = fine text b c.read_shape.result (c.read_shape.ensures.answer, c.read_shape.ensures.shape) c.in_ok-shape.shape (kept _ c.read_shape.result c.map_err.result c.map_err.ensures.cases c.in_ok-shape.was) in
+    let line = take b text in
+    let other = third_other (modes_of (line_shape line)) (line_sites line) (after text b) (sym c.names_end-2.ensures ∙ c.in_default-names_end.is) in record {
+      fault = (other ∙ sym (checks-b input a b first second good), omega arith);
+      ready = tt;
     }
 
 pub overflow_add-result-2 : goal.overflow_add-result-2
 overflow_add-result-2 c =
     let input = c.args.input.now in
-    let first = names_ends shape_names input c.in-End.a (sym c.names_end.ensures ∙ c.in-End.is) in
-    let text = after input c.in-End.a in
-    let second = ended text c.find-b.result c.find-b.ensures c.if-b-text.false in
-    let third = names_ends word_names (after text c.find-b.result) c.in-End-names_end.c (sym c.names_end-2.ensures ∙ c.in-End-names_end.is) in
-    omega (arith, within input c.in-End.a c.find-b.result c.in-End-names_end.c first second third.0, c.well_formed)
+    let a = c.in-Some.a in
+    let b = c.find-b.result in
+    let first = names_ends shape_names input a (sym c.names_end.ensures ∙ c.in-Some.is) in
+    let second = ended (after input a) b c.find-b.ensures c.if-b-text.false in
+    let third = names_ends word_names (after (after input a) b) c.in-Some-names_end.c (sym c.names_end-2.ensures ∙ c.in-Some-names_end.is) in
+    omega (arith, within input a b c.in-Some-names_end.c first second third.0, c.well_formed)
 
 pub overflow_add-result-3 : goal.overflow_add-result-3
 overflow_add-result-3 c =
     let input = c.args.input.now in
-    let first = names_ends shape_names input c.in-End.a (sym c.names_end.ensures ∙ c.in-End.is) in
-    let text = after input c.in-End.a in
-    let second = ended text c.find-b.result c.find-b.ensures c.if-b-text.false in
-    let third = names_ends word_names (after text c.find-b.result) c.in-End-names_end.c (sym c.names_end-2.ensures ∙ c.in-End-names_end.is) in
-    omega (arith, within input c.in-End.a c.find-b.result c.in-End-names_end.c first second third.0, c.well_formed)
+    let a = c.in-Some.a in
+    let b = c.find-b.result in
+    let first = names_ends shape_names input a (sym c.names_end.ensures ∙ c.in-Some.is) in
+    let second = ended (after input a) b c.find-b.ensures c.if-b-text.false in
+    let third = names_ends word_names (after (after input a) b) c.in-Some-names_end.c (sym c.names_end-2.ensures ∙ c.in-Some-names_end.is) in
+    omega (arith, within input a b c.in-Some-names_end.c first second third.0, c.well_formed)
 
 pub returns : goal.returns
 returns c =
     let input = c.args.input.now in
-    let first = names_ends shape_names input c.in-End.a (sym c.names_end.ensures ∙ c.in-End.is) in
-    let text = after input c.in-End.a in
-    let second = ended text c.find-b.result c.find-b.ensures c.if-b-text.false in
-    let it = told text c.find-b.result c.read_shape-shape.result (c.read_shape-shape.ensures.answer, c.read_shape-shape.ensures.group) in
-    let good = fine (take c.find-b.result text) c.read_shape-shape.result it c.in_default-answer.is in
-    let third = names_ends word_names (after text c.find-b.result) c.in-End-names_end.c (sym c.names_end-2.ensures ∙ c.in-End-names_end.is) in
-    let shape = it.1 c.in_default-answer.is in
-    let ready = head-ready input text (after text c.find-b.result) c.in-End.a c.find-b.result c.in-End-names_end.c first.0 (after-is input c.in-End.a)
-    second (after-is text c.find-b.result) third.0 _
-    first.1 good third.1 shape.1 (c.modes_of.ensures ∙ ap modes_of shape.0) refl in record {
-      fault = λ why line h. let no : ◌≡◌ {A = ℕ} 0 1 = cc in absurd (omega arith);
-      ready = λ _. ready;
+    let a = c.in-Some.a in
+    let b = c.find-b.result in
+    let first = names_ends shape_names input a (sym c.names_end.ensures ∙ c.in-Some.is) in
+    let text = after input a in
+    let second = ended text b c.find-b.ensures c.if-b-text.false in
+    let read = kept _ c.read_shape.result c.map_err.result c.map_err.ensures.cases c.in_ok-shape.was in
+    let it : Told (take (b - 0) text) c.read_shape.result = (c.read_shape.ensures.answer, c.read_shape.ensures.shape) in
+    let good = fine text b c.read_shape.result it c.in_ok-shape.shape read in
+    let shape = shaped text b c.read_shape.result it c.in_ok-shape.shape read in
+    let third = names_ends word_names (after text b) c.in-Some-names_end.c (sym c.names_end-2.ensures ∙ c.in-Some-names_end.is) in record {
+      fault = tt;
+      ready = head-ready input text (after text b) a b c.in-Some-names_end.c first.0 (after-is input a) second (after-is text b) third.0 _
+          first.1 good third.1 shape.1 (c.modes_of.ensures ∙ ap modes_of shape.0) refl;
     }

@@ -1,20 +1,20 @@
+use Rattle.std.specs.Prelude.{Result}
 use Prim.Native.Nat.{ℕ, ◌+◌, ◌-◌, ◌≤◌, ◌<◌}
 use mathlib.Core.Path.{◌≡◌, refl, sym, ap, ◌∙◌}
 use mathlib.Core.List.{List}
 use native.Mathlib.Omega.{arith}
 use lib.ListN.{length, drop, length-drop}
-use Rattle.outcome.specs.Outcome.{verdict, outcome_of_verdict}
+use Rattle.outcome.specs.Outcome.{verdict, outcome_of}
 use Rattle.pauli_word.proofs.Words.{rest_part}
 use Rattle.text.specs.Text.{line_end, before, pieces}
 use Rattle.text.proofs.Pieces.{before_short}
 use Rattle.outcome.specs.declared.Refusal.{Refusal}
-use Rattle.outcome.specs.declared.Verdict.{Verdict}
-use Rattle.outcome.specs.declared.Verdict.TheVariants as Verdict
-use Rattle.sheet_lines.specs.declared.LineVerdict.TheVariants as LineVerdict
+use Rattle.sheet_lines.specs.declared.LineFault.{LineFault}
 use Rattle.sheet_lines.specs.Lines.{body_checks}
 use Rattle.sheet_lines.specs.Parts.{at_line, refused_at}
 use Rattle.sheet_text.specs.Sheet.{max_sheet}
 use borrow.Author.Rules.{rules}
+use Rattle.sheet_lines.proofs.Faults.{placed, kept, handed_fault}
 use Rattle.sheet_text.proofs.Bodies.{place_unended, place_end, place-broken, place-passed}
 use Rattle.sheet_text.proofs.body.body_fault.Goals as goal
 
@@ -38,11 +38,6 @@ overflow_add-end c =
     let within : l.at + c.find.result ≤ length a.text.now = omega (arith, found, before_short line_end (drop l.at a.text.now), length-drop l.at a.text.now, l.invariant.0) in
     omega (arith, within, c.requires.1)
 
--- a line number stays small
-line_small : {at line : ℕ} (text : List ℕ) → at ≤ length text → line ≤ at + 4 → length text ≤ max_sheet → {why : Refusal}
-    → (w : Refusal) (k : ℕ) → LineVerdict.Refused why line ≡ LineVerdict.Refused w k → k ≤ max_sheet + 4
-line_small {at} {line} text inside few short w k e = let same : line ≡ k = cc in omega arith
-
 pub returns-then-end-text : goal.returns-then-end-text
 returns-then-end-text c =
     let a = c.args in
@@ -50,7 +45,7 @@ returns-then-end-text c =
     let found = c.find.ensures ∙ ap (λ (t : List ℕ). length (before line_end t)) (rest_part l.at a.text.now) in
     let e = place_unended a.used a.sites a.text.now l.at c.find.result l.line found c.if-end-text.true c.loop-at-test.true in record {
       fault = sym (l.invariant.2 ∙ e);
-      small = line_small a.text.now l.invariant.0 l.invariant.1 c.requires.1;
+      small = omega (arith, l.invariant.0, l.invariant.1, c.requires.1);
     }
 
 pub slice_bounds-value_fault-count : goal.slice_bounds-value_fault-count
@@ -70,20 +65,20 @@ slice_bounds-value_fault-end c =
 pub value_fault-requires : goal.value_fault-requires
 value_fault-requires c = c.requires.0
 
-pub returns-in-Refused : goal.returns-in-Refused
-returns-in-Refused c =
+pub returns-in_err-map_err : goal.returns-in_err-map_err
+returns-in_err-map_err c =
     let a = c.args in
     let l = c.loop-at in
     let found = c.find.ensures ∙ ap (λ (t : List ℕ). length (before line_end t)) (rest_part l.at a.text.now) in
     let within : l.at + c.find.result ≤ length a.text.now = omega (arith, found, before_short line_end (drop l.at a.text.now), length-drop l.at a.text.now, l.invariant.0) in
     let ends : l.at + c.find.result < length a.text.now = omega (arith, within, c.if-end-text.false) in
-    let why = c.in-Refused.why in record {
-      fault =
-          place-broken a.used a.sites a.text.now l.at c.find.result l.line found ends why
-          (ap (λ (x : Verdict). at_line l.line (outcome_of_verdict x)) (sym c.in-Refused.is) ∙ c.value_fault.ensures l.line)
-          ∙ sym l.invariant.2;
-      small = line_small a.text.now l.invariant.0 l.invariant.1 c.requires.1;
-    }
+    let (why, told, is) = placed l.line c.value_fault.result c.map_err.result c.map_err.ensures.cases c.in_err-map_err.was (λ e f k. search rules) in
+    let broken = place-broken a.used a.sites a.text.now l.at c.find.result l.line found ends why
+    (ap (λ (x : Result (Unit {0}) Refusal). at_line l.line (outcome_of x)) (sym told) ∙ c.value_fault.ensures l.line) in
+    rw (handed_fault c.from_residual.result c.from_residual.ensures.1, is) (record {
+      fault = broken ∙ sym l.invariant.2;
+      small = omega (arith, l.invariant.0, l.invariant.1, c.requires.1);
+    })
 
 pub overflow_add-at : goal.overflow_add-at
 overflow_add-at c =
@@ -120,17 +115,14 @@ loop-at-preserved c =
       omega (arith, l.invariant.1),
       l.invariant.2
           ∙ place-passed a.used a.sites a.text.now l.at c.find.result l.line found ends
-          (ap (λ (x : Verdict). at_line l.line (outcome_of_verdict x)) (sym c.in_default.is) ∙ c.value_fault.ensures l.line),
+          (ap (λ (x : Result (Unit {0}) Refusal). at_line l.line (outcome_of x))
+          (sym (kept _ c.value_fault.result c.map_err.result c.map_err.ensures.cases c.in_ok-map_err.was)) ∙ c.value_fault.ensures l.line),
     )
-
--- an answer is no refusal
-accepted-apart : (why : Refusal) (line : ℕ) → LineVerdict.Accepted ≡ LineVerdict.Refused why line → ⊥
-accepted-apart why line e = let z : ◌≡◌ {A = ℕ} 0 1 = cc in omega arith
 
 pub returns : goal.returns
 returns c =
     let a = c.args in
     let l = c.loop-at in record {
       fault = sym (l.invariant.2 ∙ place_end a.used a.sites a.text.now l.at l.line c.loop-at-test.false);
-      small = λ why line e. absurd (accepted-apart why line e);
+      small = tt;
     }

@@ -4,14 +4,11 @@ use mathlib.Core.Path.{◌≡◌, refl, sym, ap, ◌∙◌}
 use mathlib.Core.List.{List}
 use native.Mathlib.Omega.{arith}
 use lib.ListN.{length, drop, length-drop}
-use Rattle.outcome.specs.Outcome.{verdict, outcome_of_verdict}
+use Rattle.outcome.specs.Outcome.{verdict, outcome_of}
 use Rattle.pauli_word.proofs.Words.{rest_part}
 use Rattle.text.specs.Text.{line_end, before, pieces}
 use Rattle.text.proofs.Pieces.{before_short}
 use Rattle.outcome.specs.declared.Refusal.{Refusal}
-use Rattle.outcome.specs.declared.Verdict.{Verdict}
-use Rattle.outcome.specs.declared.Verdict.TheVariants as Verdict
-use Rattle.sheet_lines.specs.declared.LineVerdict.TheVariants as LineVerdict
 use Rattle.sheet_lines.specs.Lines.{body_checks}
 use Rattle.sheet_lines.specs.Parts.{at_line, refused_at}
 use Rattle.sheet_text.specs.Sheet.{max_sheet}

@@ -5,7 +5,7 @@ use native.Mathlib.Omega.{arith}
 use lib.ListN.{length, take, drop}
 use Rattle.pauli_word.proofs.Words.{rest_part}
 use Rattle.action.specs.Permutation.{Generator}
-use Rattle.elements.specs.HeldGroup.{generators_in}
+use Rattle.elements.specs.HeldGroup.{generators_held}
 use Rattle.text.specs.Text.{line_end, before}
 use Rattle.sheet_rows.proofs.Widths.{line_row_short}
 use Rattle.sheet_text.proofs.Bodies.{line_long, Filling, filling_start, filling-length, filling-ends, filling-fine, filling-next, filling-end}
@@ -14,8 +14,7 @@ use Rattle.sheet_text.proofs.body.fill_rows.Goals as goal
 pub loop-at-init : goal.loop-at-init
 loop-at-init c =
     let a = c.args in
-    let gs = generators_in a.used a.sites a.targets.now a.orders.now in
-    filling_start a.used a.sites gs a.text.now a.list.now a.start c.requires.text_value c.requires.text_len_bound.1
+    filling_start a.group.now.generators a.group.now.sites (generators_held a.group.now) a.text.now a.list.now a.start c.requires.text_value c.requires.text_len_bound.1
 
 pub slice_bounds-find-count : goal.slice_bounds-find-count
 slice_bounds-find-count c = omega arith
@@ -86,7 +85,7 @@ loop-at-preserved c =
     let t = c.requires.tables in
     let taken = c.loop-at-test.true in
     let fine = filling-fine l.invariant r found taken in
-    let short = line_row_short t.valid t.small t.sites a.used (take (l.at + r - l.at) (drop l.at a.text.now)) fine in
+    let short = line_row_short t.valid t.small t.sites a.group.now.generators (take (l.at + r - l.at) (drop l.at a.text.now)) fine in
     filling-next l.invariant r found taken short c.write_row-place.ensures.place c.write_row-place.ensures.list
 
 pub returns : goal.returns

@@ -2,12 +2,7 @@ use borrow.Author.Tests.{not-false}
 use native.Mathlib.Nat.{not-suc-le-zero}
 use mathlib.Core.Bool.{false≢true}
 use borrow.Author.Count.{below_more}
-use mathlib.Core.Logic.{◌⊎◌}
-use Rattle.pauli_word.specs.Limits.{max_sites}
 use Rattle.split.proofs.Division.{tables_divided}
-use mathlib.Core.Path.{◌≡◌}
-use lib.ListN.{get_or}
-use Prim.Native.Nat.{ℕ, suc, ◌+◌, ◌-◌, ◌*◌, ◌≤◌, ◌<◌}
 use native.Mathlib.Omega.{arith}
 use Rattle.split.proofs.divide.is_divided.Goals as goal
 
@@ -28,12 +23,6 @@ returns-then-generators-label c = record {
   labels = (λ e. absurd (false≢true e));
   divided = λ e. absurd (false≢true e);
 }
-
-pub overflow_add-g : goal.overflow_add-g
-overflow_add-g c = omega arith
-
-pub loop-g-smaller : goal.loop-g-smaller
-loop-g-smaller c = omega arith
 
 pub loop-g-preserved : goal.loop-g-preserved
 loop-g-preserved c = (omega arith, below_more _ _ c.loop-g.invariant.1 (omega arith), below_more _ _ c.loop-g.invariant.2 (c.leaves_others.ensures (not-false _ c.if-not-leaves_others.false-raw)))

@@ -1,7 +1,5 @@
 use mathlib.Core.Path.{ap, ◌≡◌, refl, ◌∙◌}
 use lib.ListN.{length-set, length}
-use mathlib.Core.Logic.{⊎_elim}
-use Prim.Native.Nat.{◌-◌, ◌≤◌, ◌<◌}
 use native.Mathlib.Omega.{arith}
 use Rattle.split.proofs.divide.label_one.Goals as goal
 use Rattle.split.proofs.divide.label_one.Goals.{then-meet, else-meet}
@@ -45,12 +43,6 @@ bounds-labels-h c = omega arith
 
 pub relabel-requires : goal.relabel-requires
 relabel-requires c = omega arith
-
-pub overflow_add-h : goal.overflow_add-h
-overflow_add-h c = omega arith
-
-pub loop-h-smaller : goal.loop-h-smaller
-loop-h-smaller c = omega arith
 
 pub loop-h-preserved : goal.loop-h-preserved
 loop-h-preserved c = (omega arith, omega (arith, longer c.before), longer c.before ∙ c.loop-h.invariant.2)

@@ -1,12 +1,7 @@
-use borrow.Author.Tests.{eqb-true, not-false}
 use mathlib.Core.Bool.{false≢true}
 use borrow.Author.Count.{below_more}
 use native.Mathlib.Nat.{not-suc-le-zero}
-use mathlib.Core.Logic.{◌⊎◌, inl, inr, ⊎_elim}
-use Rattle.pauli_word.specs.Limits.{max_sites}
-use mathlib.Core.Path.{◌≡◌}
-use lib.ListN.{get_or}
-use Prim.Native.Nat.{ℕ, suc, ◌+◌, ◌-◌, ◌*◌, ◌≤◌, ◌<◌}
+use mathlib.Core.Logic.{inl, inr}
 use native.Mathlib.Omega.{arith}
 use Rattle.split.proofs.divide.leaves_others.Goals as goal
 use Rattle.split.proofs.divide.leaves_others.Goals.{else-owners-q-via-then-owners-q+else-targets-g, else-owners-q-via-else-owners-q}
@@ -37,12 +32,6 @@ bounds-targets-g c = omega arith
 
 pub returns-then-targets-g : goal.returns-then-targets-g
 returns-then-targets-g c = λ e. absurd (false≢true e)
-
-pub overflow_add-q : goal.overflow_add-q
-overflow_add-q c = omega arith
-
-pub loop-q-smaller : goal.loop-q-smaller
-loop-q-smaller c = omega arith
 
 pub loop-q-preserved : goal.loop-q-preserved
 loop-q-preserved c = (omega arith, below_more _ _ c.loop-q.invariant.1 (elim c.else-owners-q.branch [ else-owners-q-via-then-owners-q+else-targets-g w ↦ inr w.if-targets-g.false | else-owners-q-via-else-owners-q w ↦ inl (omega (arith, w.if-owners-q.false)) ]))

@@ -1,5 +1,3 @@
-use Rattle.pauli_word.specs.Limits.{max_sites}
-use Prim.Native.Nat.{◌+◌, ◌-◌, ◌*◌, ◌≤◌}
 use native.Mathlib.Omega.{arith}
 use Rattle.split.proofs.divide.meet.Goals as goal
 
@@ -32,12 +30,6 @@ bounds-targets-h c = omega arith
 
 pub returns-then-targets-h : goal.returns-then-targets-h
 returns-then-targets-h c = omega arith
-
-pub overflow_add-q : goal.overflow_add-q
-overflow_add-q c = omega arith
-
-pub loop-q-smaller : goal.loop-q-smaller
-loop-q-smaller c = omega arith
 
 pub loop-q-preserved : goal.loop-q-preserved
 loop-q-preserved c = omega arith

@@ -1,8 +1,5 @@
-use mathlib.Core.Path.{ap, ◌≡◌, ◌∙◌}
+use mathlib.Core.Path.{ap, ◌∙◌}
 use lib.ListN.{length-set, length}
-use mathlib.Core.Logic.{⊎_elim}
-use Rattle.pauli_word.specs.Limits.{max_sites}
-use Prim.Native.Nat.{◌+◌, ◌-◌, ◌*◌, ◌≤◌}
 use native.Mathlib.Omega.{arith}
 use Rattle.split.proofs.divide.own.Goals as goal
 use Rattle.split.proofs.divide.own.Goals.{then-targets-g, else-targets-g}
@@ -30,12 +27,6 @@ offset_bounds-owners-q c = omega arith
 
 pub bounds-owners-q : goal.bounds-owners-q
 bounds-owners-q c = omega arith
-
-pub overflow_add-q : goal.overflow_add-q
-overflow_add-q c = omega arith
-
-pub loop-q-smaller : goal.loop-q-smaller
-loop-q-smaller c = omega arith
 
 pub loop-q-preserved : goal.loop-q-preserved
 loop-q-preserved c = (omega arith, elim c.if-targets-g.branch [ then-targets-g w ↦ ap length w.owners-is ∙ simp length-set c.loop-q.invariant.1 | else-targets-g w ↦ ap length w.owners-is ∙ c.loop-q.invariant.1 ])

@@ -1,7 +1,5 @@
-use mathlib.Core.Path.{ap, ◌≡◌, ◌∙◌}
-use mathlib.Core.Logic.{⊎_elim}
+use mathlib.Core.Path.{ap, ◌∙◌}
 use lib.ListN.{length}
-use Prim.Native.Nat.{◌-◌, ◌≤◌}
 use native.Mathlib.Omega.{arith}
 use Rattle.split.proofs.divide.own_sites.Goals as goal
 use Rattle.split.proofs.divide.own_sites.Goals.{then-label-lt-MAX_GENERATORS, else-label-lt-MAX_GENERATORS}
@@ -20,12 +18,6 @@ overflow_cast-label c = omega (arith, c.shared_slice_known-in-loop-g-1.given c.l
 
 pub own-requires : goal.own-requires
 own-requires c = omega arith
-
-pub overflow_add-g : goal.overflow_add-g
-overflow_add-g c = omega arith
-
-pub loop-g-smaller : goal.loop-g-smaller
-loop-g-smaller c = omega arith
 
 pub loop-g-preserved : goal.loop-g-preserved
 loop-g-preserved c = (omega arith, elim c.if-label-lt-MAX_GENERATORS.branch [ then-label-lt-MAX_GENERATORS w ↦ ap length w.owners-is ∙ w.own.auto.owners ∙ c.loop-g.invariant.1 | else-label-lt-MAX_GENERATORS w ↦ ap length w.owners-is ∙ c.loop-g.invariant.1 ])

@@ -1,12 +1,9 @@
 use mathlib.Core.Path.{ap, ◌≡◌, ◌∙◌}
 use lib.ListN.{length-set, length}
-use mathlib.Core.Logic.{⊎_elim}
-use Prim.Native.Nat.{◌-◌, ◌≤◌}
 use native.Mathlib.Omega.{arith}
 use Rattle.split.proofs.divide.relabel.Goals as goal
 use Rattle.split.proofs.divide.relabel.Goals.{then-labels-g, else-labels-g}
 use Rattle.split.proofs.divide.relabel.Lts as lts
-use Rattle.split.proofs.divide.relabel.Tie as tie
 use Rattle.split.proofs.divide.relabel.Reads as reads
 
 abbrev ctx-Joined1 : Type 0
@@ -30,12 +27,6 @@ offset_bounds-labels-g-then-labels-g c = omega arith
 
 pub bounds-labels-g-then-labels-g : goal.bounds-labels-g-then-labels-g
 bounds-labels-g-then-labels-g c = omega arith
-
-pub overflow_add-g : goal.overflow_add-g
-overflow_add-g c = omega arith
-
-pub loop-g-smaller : goal.loop-g-smaller
-loop-g-smaller c = omega (arith, longer c)
 
 pub loop-g-preserved : goal.loop-g-preserved
 loop-g-preserved c = (omega (arith, longer c), longer c ∙ c.loop-g.invariant.1)

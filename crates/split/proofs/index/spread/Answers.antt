@@ -1,15 +1,8 @@
-use mathlib.Core.Logic.{⊎_elim}
 use native.Mathlib.Nat.{one-mul}
-use lib.Dec.{eqb}
-use lib.ListN.{drop}
-use Rattle.action.specs.Index.{order_of}
-use Rattle.elements.specs.HeldGroup.{generators_in}
 use Rattle.elements.proofs.TableRows.{order-positive-at}
 use Rattle.elements.proofs.Indices.{factor-small, order-next}
-use Rattle.parts.specs.Labels.{spread}
 use Rattle.split.proofs.Spreading.{left-room, left-own, left_other, left_end}
-use mathlib.Core.Path.{◌≡◌}
-use Prim.Native.Nat.{◌+◌, ◌-◌, ◌*◌, ◌≤◌}
+use Prim.Native.Nat.{◌+◌}
 use native.Mathlib.Omega.{arith}
 use Rattle.split.proofs.index.spread.Goals as goal
 use Rattle.split.proofs.index.spread.Goals.{then-labels-g, else-labels-g}
@@ -50,12 +43,6 @@ overflow_mul-place c =
     let t = c.requires.tables in
     let l = c.loop-g in
     omega (arith, factor-small t _ (l.g + 1) (order-next t l.place l.g c.loop-g-test.true l.invariant.1))
-
-pub overflow_add-g : goal.overflow_add-g
-overflow_add-g c = omega arith
-
-pub loop-g-smaller : goal.loop-g-smaller
-loop-g-smaller c = omega arith
 
 pub loop-g-preserved : goal.loop-g-preserved
 loop-g-preserved c =

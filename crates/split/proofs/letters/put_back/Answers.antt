@@ -1,7 +1,6 @@
-use lib.ListN.{length-set, length, get_or}
-use Rattle.split.proofs.Placing.{PutBack, put-none, put_next, put_all}
-use mathlib.Core.Path.{◌≡◌, refl}
-use Prim.Native.Nat.{◌-◌, ◌≤◌}
+use lib.ListN.{length-set, get_or}
+use Rattle.split.proofs.Placing.{put-none, put_next, put_all}
+use mathlib.Core.Path.{refl}
 use native.Mathlib.Omega.{arith}
 use Rattle.split.proofs.letters.put_back.Goals as goal
 
@@ -19,12 +18,6 @@ bounds-part-a c = omega arith
 
 pub bounds-codes-q : goal.bounds-codes-q
 bounds-codes-q c = omega (arith, c.requires.by_index c.loop-a.a (omega arith))
-
-pub overflow_add-a : goal.overflow_add-a
-overflow_add-a c = omega arith
-
-pub loop-a-smaller : goal.loop-a-smaller
-loop-a-smaller c = omega arith
 
 pub loop-a-preserved : goal.loop-a-preserved
 loop-a-preserved c =

@@ -1,8 +1,7 @@
 use native.Mathlib.Nat.{not-suc-le-zero}
-use lib.ListN.{length-set, length, get_or}
-use Rattle.split.proofs.Placing.{Taken, taken_next, taken_all}
-use mathlib.Core.Path.{◌≡◌, refl}
-use Prim.Native.Nat.{◌-◌, ◌≤◌}
+use lib.ListN.{length-set, get_or}
+use Rattle.split.proofs.Placing.{taken_next, taken_all}
+use mathlib.Core.Path.{refl}
 use native.Mathlib.Omega.{arith}
 use Rattle.split.proofs.letters.take_out.Goals as goal
 
@@ -20,12 +19,6 @@ bounds-codes-q c = c.requires.by_index c.loop-a.a (omega arith)
 
 pub bounds-out-a : goal.bounds-out-a
 bounds-out-a c = omega arith
-
-pub overflow_add-a : goal.overflow_add-a
-overflow_add-a c = omega arith
-
-pub loop-a-smaller : goal.loop-a-smaller
-loop-a-smaller c = simp length-set (omega arith)
 
 pub loop-a-preserved : goal.loop-a-preserved
 loop-a-preserved c = (simp length-set (omega arith), simp length-set c.loop-a.invariant.1, taken_next (λ b. get_or c.args.codes.now (get_or c.args.table.now b 0) 0) c.loop-a.a c.loop-a.out (omega arith) c.loop-a.invariant.2)

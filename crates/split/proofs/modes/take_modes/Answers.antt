@@ -1,10 +1,8 @@
-use mathlib.Core.Path.{ap, ◌≡◌, refl, ◌∙◌}
-use mathlib.Core.Logic.{⊎_elim}
+use mathlib.Core.Path.{ap, refl, ◌∙◌}
 use lib.ListN.{length-set, length}
-use Rattle.split.proofs.PartModes.{ModesTaken, modes-none, modes-next, modes-skip, modes-all}
+use Rattle.split.proofs.PartModes.{modes-none, modes-next, modes-skip, modes-all}
 use mir.Syntax.{w32}
 use mir.ValLaws.{to_z-of_z}
-use Prim.Native.Nat.{◌-◌, ◌≤◌}
 use native.Mathlib.Omega.{arith}
 use Rattle.split.proofs.modes.take_modes.Goals as goal
 use Rattle.split.proofs.modes.take_modes.Goals.{then-labels-g, else-labels-g}
@@ -32,12 +30,6 @@ bounds-own-k c = omega arith
 
 pub overflow_add-k : goal.overflow_add-k
 overflow_add-k c = omega arith
-
-pub overflow_add-g : goal.overflow_add-g
-overflow_add-g c = omega arith
-
-pub loop-g-smaller : goal.loop-g-smaller
-loop-g-smaller c = omega arith
 
 pub loop-g-preserved : goal.loop-g-preserved
 loop-g-preserved c =

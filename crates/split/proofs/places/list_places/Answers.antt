@@ -1,8 +1,6 @@
 use mathlib.Core.Path.{ap, ◌≡◌, refl, ◌∙◌}
-use mathlib.Core.Logic.{⊎_elim}
 use lib.ListN.{length-set, length}
-use Rattle.split.proofs.Listing.{ListedIn, listed_none, listed-skip, listed_next}
-use Prim.Native.Nat.{◌-◌, ◌≤◌}
+use Rattle.split.proofs.Listing.{listed_none, listed-skip, listed_next}
 use native.Mathlib.Omega.{arith}
 use Rattle.split.proofs.places.list_places.Goals as goal
 use Rattle.split.proofs.places.list_places.Goals.{then-entries-q, else-entries-q}
@@ -36,12 +34,6 @@ bounds-number-q c = omega (arith, c.loop-q.invariant.3.few)
 
 pub overflow_add-m : goal.overflow_add-m
 overflow_add-m c = omega (arith, c.loop-q.invariant.3.few)
-
-pub overflow_add-q : goal.overflow_add-q
-overflow_add-q c = omega arith
-
-pub loop-q-smaller : goal.loop-q-smaller
-loop-q-smaller c = omega arith
 
 pub loop-q-preserved : goal.loop-q-preserved
 loop-q-preserved c =

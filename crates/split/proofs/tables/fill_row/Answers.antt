@@ -1,9 +1,9 @@
 use native.Mathlib.Nat.{not-suc-le-zero}
-use lib.ListN.{length-set, length, get_or}
+use lib.ListN.{length-set, get_or}
 use Rattle.pauli_word.specs.Limits.{max_sites}
-use Rattle.split.proofs.Placing.{Taken, taken_next}
-use mathlib.Core.Path.{◌≡◌, refl}
-use Prim.Native.Nat.{◌+◌, ◌-◌, ◌*◌, ◌≤◌}
+use Rattle.split.proofs.Placing.{taken_next}
+use mathlib.Core.Path.{refl}
+use Prim.Native.Nat.{◌+◌, ◌*◌}
 use native.Mathlib.Omega.{arith}
 use Rattle.split.proofs.tables.fill_row.Goals as goal
 
@@ -39,12 +39,6 @@ offset_bounds-row-a c = omega arith
 
 pub bounds-row-a : goal.bounds-row-a
 bounds-row-a c = omega arith
-
-pub overflow_add-a : goal.overflow_add-a
-overflow_add-a c = omega arith
-
-pub loop-a-smaller : goal.loop-a-smaller
-loop-a-smaller c = omega arith
 
 pub loop-a-preserved : goal.loop-a-preserved
 loop-a-preserved c = (omega arith, simp length-set c.loop-a.invariant.1, taken_next (λ b. get_or c.args.number.now (get_or c.args.targets.now (max_sites * c.args.g + get_or c.args.table.now b 0) 0) 0) c.loop-a.a c.loop-a.row (omega arith) c.loop-a.invariant.2)

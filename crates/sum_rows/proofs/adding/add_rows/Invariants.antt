@@ -18,6 +18,3 @@ use Rattle.sum_rows.proofs.adding.add_rows.Given as goal
 abbrev pub invariant-loop-i : goal.invariant-loop-i
 invariant-loop-i l =
     (l.i ≤ length l.coefficients) × Added l.places l.coefficients l.i l.sums l.counts × (every finite_sum (running place_sums (rows_to l.places l.coefficients l.i)) ≡ true)
-
-abbrev pub decreases-loop-i : goal.decreases-loop-i
-decreases-loop-i l = length l.coefficients - l.i

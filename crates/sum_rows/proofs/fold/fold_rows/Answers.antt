@@ -1,5 +1,6 @@
 -- `fold::fold_rows` meets its contract: coefficients added at their words' places are the table's sums (`Folded`), and beside a refusal the lists
 -- are zero.
+use Rattle.std.specs.Prelude.{Result, Ok, Err}
 use Prim.Native.Nat.{ℕ, ◌*◌}
 use mathlib.Core.Path.{◌≡◌, sym, ap, subst, ◌∙◌}
 use mathlib.Core.List.{List, [], ◌∷◌}
@@ -7,9 +8,7 @@ use lib.ListN.{length, replicate}
 use lib.Ieee.{Float, nan}
 use borrow.Author.Rules.{rules}
 use Rattle.outcome.specs.declared.Refusal.{Refusal}
-use Rattle.outcome.specs.declared.Verdict.{Verdict}
-use Rattle.outcome.specs.declared.Verdict.TheVariants as Verdict
-use Rattle.outcome.specs.Outcome.{Outcome, answer, refusal_of, Check, on_answer, outcome_of_verdict, verdict}
+use Rattle.outcome.specs.Outcome.{Outcome, answer, refusal_of, Check, on_answer, outcome_of, verdict}
 use Rattle.outcome.proofs.Outcomes.{call-answers, told-passes, told-refused}
 use Rattle.pauli_word.specs.Limits.{word_length}
 use Rattle.keyed.specs.Keyed.{placed}
@@ -29,10 +28,10 @@ abbrev checks : List ℕ → List Float → List Check
 checks places cs = overflow place_sums (placed nan places cs (length cs)) ∷ []
 
 -- all rows are added
-answered : (words : List ℕ) (cs : List Float) {places : List ℕ} (v : Verdict)
+answered : (words : List ℕ) (cs : List Float) {places : List ℕ} (v : Result (Unit {0}) Refusal)
     → RowPlaces words (length cs) places
-    → outcome_of_verdict v ≡ verdict (checks places cs)
-    → v ≡ Verdict.Accepted
+    → outcome_of v ≡ verdict (checks places cs)
+    → v ≡ Ok tt
     → fold_outcome byte_sums (rows_in words cs) ≡ answer (table_in words cs)
 answered words cs {places} v p told e =
     fold-by-place words cs p
@@ -44,10 +43,10 @@ handed : {A : Type 0} (fill : List (List ℕ × RowSum) → A) (words : List ℕ
 handed fill words cs e = ap (λ (o : Outcome (List (List ℕ × RowSum))). fill (handed_back o)) (sym e)
 
 -- a running sum is not finite
-refuses : (words : List ℕ) (cs : List Float) {places : List ℕ} (v : Verdict) (why : Refusal)
+refuses : (words : List ℕ) (cs : List Float) {places : List ℕ} (v : Result (Unit {0}) Refusal) (why : Refusal)
     → RowPlaces words (length cs) places
-    → outcome_of_verdict v ≡ verdict (checks places cs)
-    → v ≡ Verdict.Refused why
+    → outcome_of v ≡ verdict (checks places cs)
+    → v ≡ Err why
     → fold_outcome byte_sums (rows_in words cs) ≡ refusal_of why
 refuses words cs {places} v why p told e =
     fold-by-place words cs p ∙ told-refused (checks places cs) v told (answer (table_in words cs)) e
@@ -57,11 +56,11 @@ none-handed : {A : Type 0} (fill : List (List ℕ × RowSum) → A) (words : Lis
     → fill [] ≡ fill (handed_back (fold_outcome byte_sums (rows_in words cs)))
 none-handed fill words cs why e = ap (λ (o : Outcome (List (List ℕ × RowSum))). fill (handed_back o)) (sym e)
 
-lengths : (places : List ℕ) (cs sums : List Float) (counts : List ℕ) (v : Verdict) (why : Refusal)
+lengths : (places : List ℕ) (cs sums : List Float) (counts : List ℕ) (v : Result (Unit {0}) Refusal) (why : Refusal)
     → AddedAll v places cs sums counts
-    → v ≡ Verdict.Refused why
+    → v ≡ Err why
     → (length sums ≡ length cs) × (length counts ≡ length cs)
-lengths places cs sums counts v why h e = subst (λ (w : Verdict). AddedAll w places cs sums counts) e h
+lengths places cs sums counts v why h e = subst (λ (w : Result (Unit {0}) Refusal). AddedAll w places cs sums counts) e h
 
 pub add_rows-requires : goal.add_rows-requires
 add_rows-requires c =
@@ -74,41 +73,41 @@ add_rows-requires c =
       counts_value = c.clear.ensures.counts ∙ ap (λ (n : ℕ). replicate n 0) same;
     }
 
-pub clear-requires-in-Refused : goal.clear-requires-in-Refused
-clear-requires-in-Refused c =
-    let long = lengths c.fold_words-used.new.places c.args.coefficients.now c.add_rows.new.sums c.add_rows.new.counts c.add_rows.result c.in-Refused.why c.add_rows.ensures.added c.in-Refused.is in
+pub clear-requires-in-Err : goal.clear-requires-in-Err
+clear-requires-in-Err c =
+    let long = lengths c.fold_words-used.new.places c.args.coefficients.now c.add_rows.new.sums c.add_rows.new.counts c.add_rows.result c.in-Err.why c.add_rows.ensures.added c.in-Err.is in
     long.1 ∙ sym long.0
 
-pub returns-in-Accepted : goal.returns-in-Accepted
-returns-in-Accepted c =
+pub returns-in-Ok : goal.returns-in-Ok
+returns-in-Ok c =
     let words = c.args.words.now in
     let cs = c.args.coefficients.now in
     let k = length cs in
     let folded = c.fold_words-used.ensures in
-    let e = answered words cs c.add_rows.result folded.places c.add_rows.ensures.answer c.in-Accepted.is in
+    let e = answered words cs c.add_rows.result folded.places c.add_rows.ensures.answer c.in-Ok.is in
     let added : Added c.fold_words-used.new.places cs (length cs) c.add_rows.new.sums c.add_rows.new.counts =
-    subst (λ (v : Verdict). AddedAll v c.fold_words-used.new.places cs c.add_rows.new.sums c.add_rows.new.counts) c.in-Accepted.is c.add_rows.ensures.added in record {
+    subst (λ (v : Result (Unit {0}) Refusal). AddedAll v c.fold_words-used.new.places cs c.add_rows.new.sums c.add_rows.new.counts) c.in-Ok.is c.add_rows.ensures.added in record {
       answer = ap answer (folded.used ∙ as_many words cs) ∙ sym (ap (on_answer length) e);
       words = folded.words ∙ words-filled words cs c.requires.words_len ∙ handed (words_filled k) words cs e;
       sums = sums-filled words cs folded.places added ∙ handed (sums_filled k) words cs e;
       counts = counts-filled words cs folded.places added ∙ handed (counts_filled k) words cs e;
     }
 
-pub returns-in-Refused : goal.returns-in-Refused
-returns-in-Refused c =
+pub returns-in-Err : goal.returns-in-Err
+returns-in-Err c =
     let words = c.args.words.now in
     let cs = c.args.coefficients.now in
     let k = length cs in
-    let why = c.in-Refused.why in
+    let why = c.in-Err.why in
     let folded = c.fold_words-used.ensures in
-    let e = refuses words cs c.add_rows.result why folded.places c.add_rows.ensures.answer c.in-Refused.is in
-    let long = lengths c.fold_words-used.new.places c.args.coefficients.now c.add_rows.new.sums c.add_rows.new.counts c.add_rows.result why c.add_rows.ensures.added c.in-Refused.is in record {
+    let e = refuses words cs c.add_rows.result why folded.places c.add_rows.ensures.answer c.in-Err.is in
+    let long = lengths c.fold_words-used.new.places c.args.coefficients.now c.add_rows.new.sums c.add_rows.new.counts c.add_rows.result why c.add_rows.ensures.added c.in-Err.is in record {
       answer = sym (ap (on_answer length) e);
       words =
           c.bytes_from.ensures
           ∙ filled_all 0 c.fold_words-used.new.words (c.fold_words-used.auto.words ∙ c.requires.words_len)
           ∙ no_words k
           ∙ none-handed (words_filled k) words cs why e;
-      sums = c.clear-in-Refused.ensures.sums ∙ no_members zero k long.0 ∙ none-handed (sums_filled k) words cs why e;
-      counts = c.clear-in-Refused.ensures.counts ∙ no_members 0 k long.0 ∙ none-handed (counts_filled k) words cs why e;
+      sums = c.clear-in-Err.ensures.sums ∙ no_members zero k long.0 ∙ none-handed (sums_filled k) words cs why e;
+      counts = c.clear-in-Err.ensures.counts ∙ no_members 0 k long.0 ∙ none-handed (counts_filled k) words cs why e;
     }

@@ -7,7 +7,7 @@ use borrow.Author.Tests.{not-true, not-false}
 use Rattle.pauli_word.proofs.Words.{rest_part}
 use Rattle.text.specs.Text.{is_number, number_of}
 use Rattle.text.specs.Parts.{cap}
-use Rattle.text.specs.declared.read.Signed.TheVariants as Signed
+use Rattle.std.specs.Prelude.{Some}
 use Rattle.text.proofs.Numbers.{minus-no-number, minus-zero, minus-value, less-fits, negated}
 use Rattle.text.proofs.read.negative.Goals as goal
 
@@ -29,5 +29,5 @@ returns c =
     let t = c.args.text.now in
     let e = c.value-v.ensures ∙ ap (λ b. min (number_of b) cap) (rest_part 1 t) in
     let told = sym c.is_number.ensures ∙ not-false _ c.if-not-is_number.false-raw in
-    ap Signed.Value (negated c.value-v.result (omega arith) (omega arith))
+    ap Some (negated c.value-v.result (omega arith) (omega arith))
     ∙ minus-value t c.requires.0 c.requires.1 c.value-v.result e (ap is_number (sym (rest_part 1 t)) ∙ told) (omega arith)

@@ -8,8 +8,5 @@ use Rattle.text.specs.Parts.{cap}
 use Rattle.text.proofs.Numbers.{value_next, value_end}
 use Rattle.text.proofs.read.value.Given as goal
 
-abbrev pub invariant-loop-i : goal.invariant-loop-i
-invariant-loop-i l = (l.i ≤ length l.text) × (l.v ≤ cap) × (min (number_of l.text) cap ≡ min (read_on l.v (drop l.i l.text)) cap)
-
-abbrev pub decreases-loop-i : goal.decreases-loop-i
-decreases-loop-i l = length l.text - l.i
+abbrev pub invariant-loop-byte : goal.invariant-loop-byte
+invariant-loop-byte l = (l.byte-index ≤ length l.text) × (l.v ≤ cap) × (min (number_of l.text) cap ≡ min (read_on l.v (drop l.byte-index l.text)) cap)

@@ -1,7 +1,6 @@
 -- `numbers::by_numbers` meets its contract: there is room for the planes that the sites use.
 use Rattle.rotation.proofs.Packs.{fresh-length}
 use mathlib.Core.Path.{refl}
-use borrow.Author.Rules.{rules}
 use Rattle.ways.proofs.numbers.by_numbers.Goals as goal
 
 pub in_planes-requires : goal.in_planes-requires

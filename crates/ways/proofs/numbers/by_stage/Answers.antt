@@ -2,14 +2,13 @@
 use Rattle.grid.proofs.Leads.{staged_leads}
 use Rattle.pauli_word.proofs.Words.{decode-length}
 use Rattle.pauli_word.specs.Bytes.{letters_in}
-use borrow.Author.Rules.{rules}
 use Rattle.ways.proofs.numbers.by_stage.Goals as goal
 
 pub give-requires : goal.give-requires
 give-requires c =
     let a = c.args in
     let (ok, told, staged) = c.requires.accepted_word in
-    let w = letters_in a.sites a.word.now in record {
+    let w = letters_in a.group.now.sites a.word.now in record {
       tables = c.requires.tables;
       axes = c.requires.axes;
       renumbered = c.requires.renumbered;

@@ -1,7 +1,6 @@
 -- `numbers::forward_by` meets its contract: the inverse of the one candidate that is left, or the least inverse of those that lead.
 use Rattle.grid.proofs.Leads.{alone-forward, staged_leads}
 use mathlib.Core.Path.{sym, ◌∙◌}
-use borrow.Author.Rules.{rules}
 use Rattle.ways.proofs.numbers.forward_by.Goals as goal
 
 pub returns-in-Alone : goal.returns-in-Alone

@@ -6,7 +6,6 @@ use Rattle.action.specs.Orbit.{reach}
 use Rattle.pauli_word.specs.Bytes.{letters_in, bytes_of}
 use Rattle.pauli_word.specs.Word.{Word}
 use mathlib.Core.Path.{ap, ◌∙◌}
-use borrow.Author.Rules.{rules}
 use Rattle.ways.proofs.numbers.give.Goals as goal
 
 pub reach-requires : goal.reach-requires
@@ -28,8 +27,8 @@ put_planes-requires c = record {
 pub returns : goal.returns
 returns c =
     let a = c.args in
-    let gs = generators_in a.generators a.sites a.targets.now a.orders.now in
-    let w = letters_in a.sites a.word.now in
+    let gs = generators_in a.group.now.generators a.group.now.sites a.group.now.targets.now a.group.now.orders.now in
+    let w = letters_in a.group.now.sites a.word.now in
     let read = c.requires.read_through in
     let (f, l) = c.requires.forward_value in record {
       word = c.put_planes.ensures

@@ -3,7 +3,6 @@ use Rattle.packed.specs.Packed.{bit_of}
 use native.Mathlib.Omega.{arith}
 use mathlib.Core.Logic.{inl}
 use mathlib.Core.Path.{refl, sym, ◌∙◌}
-use borrow.Author.Rules.{rules}
 use Rattle.ways.proofs.numbers.in_planes.Goals as goal
 
 pub gather-requires-2 : goal.gather-requires-2

@@ -2,7 +2,6 @@
 use borrow.Author.Tests.{not-false}
 use native.Mathlib.Omega.{arith}
 use mathlib.Core.Path.{◌∙◌}
-use borrow.Author.Rules.{rules}
 use Rattle.ways.proofs.way.find_way.Goals as goal
 
 pub is_renumbered-requires : goal.is_renumbered-requires
@@ -13,17 +12,15 @@ is_renumbered-requires c =
       site_len = (n.site ∙ c.requires.site_len.0, n.place ∙ c.requires.site_len.1, omega (arith, c.if-order-gt-MAX_SITES.false));
     }
 
-pub fill_axes-requires : goal.fill_axes-requires
-fill_axes-requires c =
-    let f = c.find_path-path.auto in record {
-      tables = c.requires.tables;
-      orders_bound = omega (arith, c.requires.order_value, c.if-order-gt-MAX_SITES.false);
-      strides_len = (f.strides ∙ c.requires.strides_len.0, f.rests ∙ c.requires.strides_len.1);
-    }
+pub axis_shapes-requires : goal.axis_shapes-requires
+axis_shapes-requires c = record {
+  tables = c.requires.tables;
+  orders_bound = omega (arith, c.requires.order_value, c.if-order-gt-MAX_SITES.false);
+}
 
 pub returns : goal.returns
 returns c =
     let u = c.words_in_use.ensures in record {
       few = u.1;
-      way = (c.fill_axes.ensures, c.is_renumbered.ensures (not-false _ c.if-not-is_renumbered.false-raw), u.0, u.1);
+      way = (c.axis_shapes.ensures, c.is_renumbered.ensures (not-false _ c.if-not-is_renumbered.false-raw), u.0, u.1);
     }

@@ -1,5 +1,4 @@
 -- `way::least_by` meets its contract: by the group's path, or through the table.
-use borrow.Author.Rules.{rules}
 use Rattle.ways.proofs.way.least_by.Goals as goal
 
 pub least_into-requires : goal.least_into-requires
