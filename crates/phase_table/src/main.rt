@@ -31,7 +31,8 @@ fn print_front<W: Write>(output: &mut W, input: &[u8], read: usize) -> Result<()
 
 fn print_answer<W: Write>(output: &mut W, file: &[u8]) -> Result<()> {
     let mut line = [0u8; MAX_LINE];
-    let length = answer::write_answer(phase_file::read_phase_table(file), &mut line);
+    let read = phase_file::read_phase_table(file).map_err(|refused| refused.why);
+    let length = answer::write_answer(read, &mut line);
     write(output, &line, length)
 }
 
