@@ -1,6 +1,7 @@
 -- What is promised of the calls for C beyond their contracts: 0 is returned for an answer alone; no value of a rule is lost; a refused beginning of a walk
 -- hands back a word and an index that `gomurin_next` refuses, whatever the group beside them; the two lists of a phase table that a call hands back pass;
--- a call on many words returns 0 or a rule of its own, and a row that it names is one of its rows; and what each definition says of an example.
+-- a call on many words returns 0 or a rule of its own, and a row that it names is one of its rows; beside a dropped word stand zeros, the counter as it
+-- was, and the index that drops it; and what each definition says of an example.
 use Rattle.std.specs.declared.cmp.Ordering.TheVariants.{Less, Equal, Greater}
 use Rattle.std.specs.Prelude.{Result, Ok, Err, Some, None}
 use Prim.Native.Nat.{ℕ, zero, suc, ◌+◌, ◌<◌}
@@ -11,15 +12,16 @@ use mathlib.Core.List.{List, [], ◌∷◌, map}
 use native.Mathlib.Omega.{arith}
 use lib.Dec.{ltb, leb}
 use lib.IntN.{ℤ, pos, negsuc}
-use lib.ListN.{length, take, get_or}
+use lib.ListN.{length, take, get_or, replicate}
 use borrow.Author.Tests.{lt-leb}
 use Rattle.outcome.specs.declared.Refusal.{Refusal}
 use Rattle.outcome.specs.declared.Refusal.TheVariants as Refusal
-use Rattle.outcome.specs.Outcome.{Outcome, answer, refused, answers, Check, rule, verdict, given, unless, rule_number, rule_values, outcome_of}
-use Rattle.pauli_word.specs.Limits.{max_sites}
+use Rattle.outcome.specs.Outcome.{Outcome, answer, refused, answers, Check, rule, verdict, given, unless, or_else, rule_number, rule_values, refusal_of, outcome_of}
+use Rattle.pauli_word.specs.Limits.{max_sites, word_length}
 use Rattle.pauli_word.specs.Calls.{clear_above}
 use Rattle.permutation.specs.Limits.{max_generators, max_order, target_places}
 use Rattle.action.specs.Lists.{Member}
+use Rattle.action.specs.Permutation.{Generator}
 use Rattle.action.specs.Index.{order_of}
 use Rattle.group.specs.declared.Group.{Group}
 use Rattle.group.specs.Value.{generators_of, is_group}
@@ -29,17 +31,21 @@ use Rattle.row_lists.specs.Checks.{bits_above_sites}
 use Rattle.orbit.specs.declared.Entry.{Entry as EntryGiven}
 use Rattle.orbit.specs.Calls.{is_walk, no_walk, next_outcome, entry, finished, walk_in}
 use Rattle.orbit.specs.Words.{words_checks, words_outcome}
-use Rattle.decisions.specs.Decisions.{kept, dropped}
+use Rattle.decisions.specs.Decisions.{kept, dropped, row_word}
+use Rattle.decisions.specs.Placements.{placement_of, index_in}
 use Rattle.momentum.specs.declared.Sector.TheVariants as Sector
+use Rattle.momentum.specs.Calls.{sector_of, size_of, row_counter}
 use Rattle.momentum.specs.Words.{sector_words_checks, sector_words_outcome}
 use Rattle.text.specs.Text.{line_end, pieces}
 use Rattle.phases.specs.Table.{phase_table}
 use Rattle.phases.specs.Rules.{table_of, passes}
 use Rattle.phases.proofs.Constant.{constant_passes}
+use Rattle.phase_file.specs.declared.RefusedFile.{RefusedFile}
+use Rattle.phase_file.specs.Calls.{outcome_of_file}
 use Rattle.phase_file.specs.File.{max_file, is_file, table_in, file_outcome, table_after}
 use Rattle.phase_file.proofs.Promises.{after-passes}
 use Rattle.project.specs.declared.Projection.{Projection}
-use Rattle.project.specs.Calls.{ProjectedSum, projection_of}
+use Rattle.project.specs.Calls.{ProjectedSum, projection_of, counts_of}
 use Rattle.sheet_text.specs.Sheet.{Page, table_page, refusal_page}
 use Rattle.c_api.specs.Told.{placed, number_of, values_of, sign_of, index_of_entry, is_finished, given_word, given_index, none_given, size_in, row_size, is_kept, drop_index, sector_word, sector_size, in_sector, sector_index, kept_in, dropped_in, rows_kept, rows_dropped, page_number, page_values, page_length}
 
@@ -85,13 +91,20 @@ rule-positive Refusal.PhaseRule = omega arith
 rule-positive Refusal.OldWordSites = omega arith
 rule-positive Refusal.DigitRange = omega arith
 
+pub zero-answers : {A : Type 0} (r : Result A Refusal) → number_of (outcome_of r) ≡ 0 → answers (outcome_of r) ≡ true
+zero-answers (Ok a) e = refl
+zero-answers (Err why) e = absurd (omega (arith, rule-positive why))
+
 pub zero_number : (n : Result ℕ Refusal) → number_of (outcome_of n) ≡ 0 → answers (outcome_of n) ≡ true
-zero_number (Ok k) e = refl
-zero_number (Err why) e = absurd (omega (arith, rule-positive why))
+zero_number = zero-answers
 
 pub zero-verdict : (v : Result (Unit {0}) Refusal) → number_of (outcome_of v) ≡ 0 → answers (outcome_of v) ≡ true
-zero-verdict (Ok tt) e = refl
-zero-verdict (Err why) e = absurd (omega (arith, rule-positive why))
+zero-verdict = zero-answers
+
+-- and of a file
+pub zero_file : {A : Type 0} (r : Result A RefusedFile) → number_of (outcome_of_file r) ≡ 0 → answers (outcome_of_file r) ≡ true
+zero_file (Ok a) e = refl
+zero_file (Err file) e = absurd (omega (arith, rule-positive file.why))
 
 -- ---- 2 Four places suffice: nothing that a rule names is lost, nor where a line of a sheet stands before it
 
@@ -274,7 +287,27 @@ module _ (g : Group) (words : List ℕ) (k representatives : ℕ) where
         ),
       )
 
--- ---- 6 Examples: what each definition says
+-- ---- 6 Beside a dropped word and beside a refusal no word stands, which is zeros; the size of a dropped word is 0, its counter stays as it was, and the
+-- index that drops it is not lost
+
+pub dropped-word : (i : ℕ) → (row_word (dropped i) ≡ replicate word_length 0) × (sector_word (Sector.Dropped i) ≡ replicate word_length 0)
+dropped-word i = (refl, refl)
+
+pub dropped-size : (i : ℕ) → (row_size (dropped i) ≡ 0) × (size_in (size_of (dropped i)) ≡ 0) × (sector_size (Sector.Dropped i) ≡ 0)
+dropped-size i = (refl, refl, refl)
+
+pub dropped-counter : (gs : List Generator) (counter : List ℕ) (i : ℕ) → row_counter gs counter (dropped i) ≡ counter
+dropped-counter gs counter i = refl
+
+pub dropped-index :
+    (i : ℕ)
+    → (drop_index (size_of (dropped i)) ≡ i) × (index_in (placement_of (dropped i)) ≡ i) × (sector_index (sector_of (dropped i)) ≡ i)
+dropped-index i = (refl, refl, refl)
+
+pub refused-word : {A : Type 0} (f : A → List ℕ) (why : Refusal) → or_else f no_word (refusal_of why) ≡ replicate word_length 0
+refused-word f why = refl
+
+-- ---- 7 Examples: what each definition says
 
 pub numbers : map (number_of {A = ℕ}) (refused 14 [] ∷ refused 10 (0 ∷ 2 ∷ 4 ∷ []) ∷ answer 7 ∷ []) ≡ 14 ∷ 10 ∷ 0 ∷ []
 numbers = refl
@@ -317,9 +350,11 @@ sectors = (refl, refl, refl, refl)
 pub projections : let rows : Projection = record { kept = 3; dropped = 2 } in (kept_in rows ≡ 3) × (dropped_in rows ≡ 2)
 projections = (refl, refl)
 
-pub projected-rows :
-    (s : ProjectedSum) → (rows_kept s ≡ kept_in (projection_of s)) × (rows_dropped s ≡ dropped_in (projection_of s))
+pub projected-rows : (s : ProjectedSum) → (rows_kept s ≡ (counts_of s).0) × (rows_dropped s ≡ (counts_of s).1)
 projected-rows s = (refl, refl)
+
+pub rows-handed : (s : ProjectedSum) → (rows_kept s ≡ kept_in (projection_of s)) × (rows_dropped s ≡ dropped_in (projection_of s))
+rows-handed s = (refl, refl)
 
 -- a sheet refused by 29 at line 4, at letter 2, its line of 13 bytes; a table of 84 bytes; a list too short
 abbrev pages : List (Outcome Page)

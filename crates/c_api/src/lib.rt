@@ -2,8 +2,9 @@
 //
 // A call takes and hands back plain numbers, slices and arrays of fixed length. A group is its four parts, a walk is a group with a word and an index, a
 // phase table is its two lists.
-// A call returns 0 for an answer, else the number of the rule that the input breaks; what goes with either goes through `&mut`. What it hands back
-// beside a refusal is what the call that it passes on hands back there, and 0 for a number.
+// A call returns 0 for an answer, else the number of the rule that the input breaks; what goes with either goes through `&mut`. Beside a refusal it hands
+// back zeros, or a group or a walk that every call refuses, or the constant phase table; slices stay as they were, but for 25 and the line of a refused
+// sheet, and so does the walk of a refused step.
 #![tactic(auto)]
 
 pub mod groups;

@@ -12,10 +12,8 @@ ghost use Rattle.group.specs.Value.{group_in};
 ghost use Rattle.c_api.specs.Told.{number_of, values_of, index_of_entry, is_finished};
 
 use crate::{VALUES, told};
-use orbit::CanonicalIndex;
-use orbit::lent::Beginning;
 use pauli_word::WORD_BYTES;
-use permutation::{Lent, MAX_GENERATORS, TARGET_PLACES};
+use permutation::{Lent, MAX_GENERATORS, MAX_ORDER, TARGET_PLACES};
 
 // The least word of a word's orbit.
 #[unsafe(no_mangle)]
@@ -66,15 +64,19 @@ pub extern "C" fn gomurin_canonicalize_with_index<'a>(
         orders,
         targets,
     };
-    let answer = orbit::canonicalize_with_index(&group, n, word);
-    let found = answer.unwrap_or(CanonicalIndex {
-        word: [0u8; WORD_BYTES],
-        index: 0,
-    });
-    let bytes = found.word;
-    *least = bytes;
-    *index = found.index;
-    told::verdict(&answer, values)
+    match orbit::canonicalize_with_index(&group, n, word) {
+        Ok(found) => {
+            let bytes = found.word;
+            *least = bytes;
+            *index = found.index;
+            told::answered(values)
+        }
+        Err(why) => {
+            *least = [0u8; WORD_BYTES];
+            *index = 0;
+            told::refused(why, values)
+        }
+    }
 }
 
 // The same with the counter of that index, into a list with a place for each generator.
@@ -209,17 +211,19 @@ pub extern "C" fn gomurin_orbit<'a>(
         orders,
         targets,
     };
-    let answer = orbit::lent::orbit(&group, n, word);
-    let beside = orbit::steps::no_walk();
-    let bytes = beside.word;
-    let begun = answer.unwrap_or(Beginning {
-        at: bytes,
-        index: beside.index,
-    });
-    let start = begun.at;
-    *at = start;
-    *index = begun.index;
-    told::verdict(&answer, values)
+    match orbit::lent::orbit(&group, n, word) {
+        Ok(begun) => {
+            let bytes = begun.at;
+            *at = bytes;
+            *index = begun.index;
+            told::answered(values)
+        }
+        Err(why) => {
+            *at = [0u8; WORD_BYTES];
+            *index = MAX_ORDER + 1;
+            told::refused(why, values)
+        }
+    }
 }
 
 // A step of a walk: the entry's word and index, and the walk after it. After the last entry it answers finished and changes nothing of the walk.

@@ -30,8 +30,14 @@ pub extern "C" fn gomurin_read_phase_table(
     ensures sines { sines.new ≡ (table_after (file_outcome file.now)).sines }
     ensures values { values.new ≡ values_of (file_outcome file.now) }
 {
-    let answer = phase_file::read_phase_table(file);
-    let table = answer.unwrap_or(phases::phase_table());
-    told::table(table, cosines, sines);
-    told::verdict(&answer, values)
+    match phase_file::read_phase_table(file) {
+        Ok(table) => {
+            told::table(table, cosines, sines);
+            told::answered(values)
+        }
+        Err(refused) => {
+            told::table(refused.table, cosines, sines);
+            told::refused(refused.why, values)
+        }
+    }
 }

@@ -168,7 +168,16 @@ pub fn word(
     ensures word { place.new ≡ or_else itself no_word (outcome_of answer) }
     ensures values { values.new ≡ values_of (outcome_of answer) }
 {
-    value(answer, [0u8; WORD_BYTES], place, values)
+    match answer {
+        Ok(bytes) => {
+            *place = bytes;
+            answered(values)
+        }
+        Err(why) => {
+            *place = [0u8; WORD_BYTES];
+            refused(why, values)
+        }
+    }
 }
 
 // A group in its four parts, which beside a refusal are no group's.
@@ -187,14 +196,36 @@ pub fn made(
     ensures targets { targets.new ≡ (or_else itself no_group (outcome_of built)).targets }
     ensures values { values.new ≡ values_of (outcome_of built) }
 {
-    let group = built.unwrap_or(group::inner::no_group());
+    match built {
+        Ok(group) => {
+            parts(&group, sites, generators, orders, targets);
+            answered(values)
+        }
+        Err(why) => {
+            let beside = group::inner::no_group();
+            parts(&beside, sites, generators, orders, targets);
+            refused(why, values)
+        }
+    }
+}
+
+// The four parts of a group, in their places.
+fn parts(
+    group: &Group,
+    sites: &mut usize,
+    generators: &mut usize,
+    orders: &mut [u32; MAX_GENERATORS],
+    targets: &mut [u16; TARGET_PLACES],
+)
+    ensures sites { sites.new ≡ group.now.sites }
+    ensures generators { generators.new ≡ group.now.generators }
+    ensures orders { orders.new ≡ group.now.orders }
+    ensures targets { targets.new ≡ group.now.targets }
+{
     *sites = group.sites;
     *generators = group.generators;
-    let held = group.orders;
-    *orders = held;
-    let sent = group.targets;
-    *targets = sent;
-    verdict(&built, values)
+    *orders = group.orders;
+    *targets = group.targets;
 }
 
 // A step of a walk: its entry, or that the walk is over.
@@ -211,7 +242,6 @@ pub fn step(
     ensures finished { finished.new ≡ or_else none_given false (outcome_of answer) }
     ensures values { values.new ≡ values_of (outcome_of answer) }
 {
-    *word = [0u8; WORD_BYTES];
     *entry = 0;
     *finished = false;
     match answer {
@@ -222,10 +252,14 @@ pub fn step(
             answered(values)
         }
         Ok(None) => {
+            *word = [0u8; WORD_BYTES];
             *finished = true;
             answered(values)
         }
-        Err(why) => refused(why, values),
+        Err(why) => {
+            *word = [0u8; WORD_BYTES];
+            refused(why, values)
+        }
     }
 }
 
@@ -245,7 +279,6 @@ pub fn sector(
     ensures index { dropped_by.new ≡ or_else sector_index 0 (outcome_of answer) }
     ensures values { values.new ≡ values_of (outcome_of answer) }
 {
-    *word = [0u8; WORD_BYTES];
     *size = 0;
     *kept = false;
     *dropped_by = 0;
@@ -258,10 +291,14 @@ pub fn sector(
             answered(values)
         }
         Ok(Sector::Dropped(index)) => {
+            *word = [0u8; WORD_BYTES];
             *dropped_by = index;
             answered(values)
         }
-        Err(why) => refused(why, values),
+        Err(why) => {
+            *word = [0u8; WORD_BYTES];
+            refused(why, values)
+        }
     }
 }
 
@@ -277,11 +314,16 @@ pub fn projection(
     ensures dropped { dropped.new ≡ or_else dropped_in 0 (outcome_of answer) }
     ensures values { values.new ≡ values_of (outcome_of answer) }
 {
-    let rows = answer.unwrap_or(Projection {
-        kept: 0,
-        dropped: 0,
-    });
-    *kept = rows.kept;
-    *dropped = rows.dropped;
-    verdict(&answer, values)
+    match answer {
+        Ok(rows) => {
+            *kept = rows.kept;
+            *dropped = rows.dropped;
+            answered(values)
+        }
+        Err(why) => {
+            *kept = 0;
+            *dropped = 0;
+            refused(why, values)
+        }
+    }
 }

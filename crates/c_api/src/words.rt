@@ -5,7 +5,7 @@ ghost use Rattle.pauli_word.specs.Calls.{from_text_outcome, from_text_bytes, to_
 ghost use Rattle.c_api.specs.Told.{number_of, values_of, sign_of};
 
 use crate::{VALUES, told};
-use pauli_word::{MAX_SITES, TextWord, WORD_BYTES, WordText};
+use pauli_word::{MAX_SITES, WORD_BYTES};
 use std::cmp::Ordering;
 
 // The word that a text writes, a letter a byte, and its site count.
@@ -21,15 +21,19 @@ pub extern "C" fn gomurin_from_text(
     ensures word { word.new ≡ from_text_bytes text.now }
     ensures values { values.new ≡ values_of (from_text_outcome text.now) }
 {
-    let answer = pauli_word::from_text(text);
-    let read = answer.unwrap_or(TextWord {
-        sites: 0,
-        word: [0u8; WORD_BYTES],
-    });
-    let bytes = read.word;
-    *word = bytes;
-    *sites = read.sites;
-    told::verdict(&answer, values)
+    match pauli_word::from_text(text) {
+        Ok(read) => {
+            *sites = read.sites;
+            let bytes = read.word;
+            *word = bytes;
+            told::answered(values)
+        }
+        Err(why) => {
+            *sites = 0;
+            *word = [0u8; WORD_BYTES];
+            told::refused(why, values)
+        }
+    }
 }
 
 // The text of a word of n sites, a letter a byte and zeros after it, and how many letters.
@@ -46,15 +50,19 @@ pub extern "C" fn gomurin_to_text(
     ensures text { text.new ≡ to_text_bytes n word.now }
     ensures values { values.new ≡ values_of (to_text_outcome n word.now) }
 {
-    let answer = pauli_word::to_text(n, word);
-    let written = answer.unwrap_or(WordText {
-        letters: 0,
-        text: [0u8; MAX_SITES],
-    });
-    let bytes = written.text;
-    *text = bytes;
-    *letters = written.letters;
-    told::verdict(&answer, values)
+    match pauli_word::to_text(n, word) {
+        Ok(written) => {
+            *letters = written.letters;
+            let bytes = written.text;
+            *text = bytes;
+            told::answered(values)
+        }
+        Err(why) => {
+            *letters = 0;
+            *text = [0u8; MAX_SITES];
+            told::refused(why, values)
+        }
+    }
 }
 
 // The weight of a word of n sites: the number of sites whose letter is other than I.
