@@ -146,10 +146,10 @@ module _ {k n : ℕ} {targets orders : List ℕ} (t : Tables k n targets orders)
   positive = order-positive-at t 0 some
 
   -- the digits are below the order, and the sum below that of the group
-  stands-low : low < first
+  pub stands-low : low < first
   stands-low = omega (arith, s.1, mod-lt d positive)
 
-  stands-turn : turn < first
+  pub stands-turn : turn < first
   stands-turn = omega (arith, s.2, mod-lt sum positive)
 
   -- the first digit is no larger than the index

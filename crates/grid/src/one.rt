@@ -105,7 +105,7 @@ pub fn step_word(
         generators,
         ..
     } = *group;
-    let Shapes { strides, rests } = *shapes;
+    let Shapes { strides, rests } = shapes;
     let mut x = at;
     let mut digits = h;
     for g in 0..generators {

@@ -32,7 +32,7 @@ pub fn step(
         generators,
         ..
     } = *group;
-    let Shapes { strides, rests } = *shapes;
+    let Shapes { strides, rests } = shapes;
     let m = at.len();
     let mut digits = h;
     for g in 0..generators {

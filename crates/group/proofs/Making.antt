@@ -24,7 +24,6 @@ use Rattle.generators.proofs.Groups.{rows-placed}
 use Rattle.generators.proofs.Rows.{rows-permute}
 use Rattle.action.specs.Permutation.{Permutes}
 use Rattle.group.specs.declared.Group.{Group}
-use Rattle.outcome.specs.declared.Refusal.TheVariants as Refusal
 use Rattle.group.specs.Value.{group_of, try_from_outcome}
 use Rattle.group.proofs.LatticeCalls.{same_group}
 
@@ -75,7 +74,7 @@ module _ (n : ℕ) (list orders : List ℕ) where
   unfolding try_from_outcome
   refused-made why e = sym (call-refused try_checks (answer (group_of n (declared (perms_of list) orders))) why e)
 
-  answered-made :
+  pub answered-made :
       length (perms_of list) ≡ length orders → verdict try_checks ≡ answer tt
       → try_from_outcome n list orders ≡ answer (tables_of n (perms_of list) orders)
   unfolding try_from_outcome
@@ -118,18 +117,18 @@ module _ (n : ℕ) (list orders : List ℕ) where
               let check = perms_check n 0 (perms_of list) in
               perms-decide ∙ first-refuses check (group_checks n (perms_of list) orders) (refused-broken check why e) ∙ sym e
 
-          group-decides : (perms_check n 0 (perms_of list)).broken ≡ false → verdict try_checks ≡ verdict (group_checks n (perms_of list) orders)
+          pub group-decides : (perms_check n 0 (perms_of list)).broken ≡ false → verdict try_checks ≡ verdict (group_checks n (perms_of list) orders)
           group-decides e = perms-decide ∙ rw e
 
 -- ---- the tables that are filled on the way
 
-rows-filled :
+pub rows-filled :
     (n k : ℕ) (perms : List (List ℕ)) (targets : List ℕ) → n ≤ max_sites → (perms_check n 0 perms).broken ≡ false → k ≡ length perms
     → targets ≡ placed_all perms → rows_of k n targets ≡ perms
 rows-filled n k perms targets few fine count placed =
     ap₂ (λ (j : ℕ) (l : List ℕ). rows_of j n l) count placed ∙ rows-placed n perms few (λ p m. (perms_fine_lem n 0 perms fine p m).long)
 
-orders_filled : (k : ℕ) (orders : List ℕ) → k ≡ length orders → take k (filled max_generators orders) ≡ orders
+pub orders_filled : (k : ℕ) (orders : List ℕ) → k ≡ length orders → take k (filled max_generators orders) ≡ orders
 orders_filled k orders e = take_at orders (blank (max_generators - length orders)) k (sym e)
 
 -- the list's generators stand in the table, and the declared orders in theirs, with zeros after them

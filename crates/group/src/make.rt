@@ -9,7 +9,7 @@ ghost use Rattle.group.specs.Calls.{axes_outcome};
 
 use crate::Group;
 use outcome::Refusal;
-use permutation::{MAX_GENERATORS, TARGET_PLACES};
+use permutation::{Lent, MAX_GENERATORS, TARGET_PLACES};
 
 // The group of a list whose counts have been checked: 5 to 13.
 pub fn made(sites: usize, list: &[u32], orders: &[u32], count: usize) -> Result<Group, Refusal>
@@ -20,14 +20,18 @@ pub fn made(sites: usize, list: &[u32], orders: &[u32], count: usize) -> Result<
     generators::list::fill_targets(list, sites, &mut targets)?;
     let mut declared = [0u32; MAX_GENERATORS];
     generators::list::copy(orders, &mut declared[..count]);
-    let group = Group {
+    generators::tables::group_fault(&Lent {
+        sites,
+        generators: count,
+        orders: &declared,
+        targets: &targets,
+    })?;
+    Ok(Group {
         sites,
         generators: count,
         orders: declared,
         targets,
-    };
-    generators::tables::group_fault(&group.lent())?;
-    Ok(group)
+    })
 }
 
 // The group of a lattice with sides a, b and c, and a shift along each of the first axes: 26, 27, or the group.

@@ -108,7 +108,7 @@ module _ (input : List ℕ) (short : length input ≤ max_sheet) (h : Head) (rea
       ∙ ap₂ (λ (n : ℕ) (t : List ℕ). verdict (body_checks h.used n (pieces line_end t) 4)) (sym same-sites) (sym body_is)
 
   -- what its group prints
-  ready-prints : verdict (sheet_checks input) ≡ answer tt
+  pub ready-prints : verdict (sheet_checks input) ≡ answer tt
       → Prints input (Ok tt) ((table_names ++ (line_end ∷ [])) ++ rows h.group.generators (generators_in h.group.generators h.group.sites h.group.targets h.group.orders) (pieces line_end body))
   unfolding generators_of
   ready-prints fine =

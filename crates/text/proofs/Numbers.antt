@@ -29,6 +29,12 @@ unfolding every
 all_every p [] = refl
 all_every p (b ∷ bs) = ap (λ (t : Bool). p b && t) (all_every p bs)
 
+pub digit-below : (b : ℕ) → b < zero_digit → is_digit b ≡ false
+digit-below b h = simp (lt-leb zero_digit b h)
+
+pub digit_above : (b : ℕ) → nine_digit < b → is_digit b ≡ false
+digit_above b h = let l : zero_digit ≤ b = omega arith in simp (le-leb zero_digit b l, lt-leb b nine_digit h)
+
 pub digit_within : (b : ℕ) → zero_digit ≤ b → b ≤ nine_digit → is_digit b ≡ true
 digit_within b h k = simp (le-leb zero_digit b h, le-leb b nine_digit k)
 
