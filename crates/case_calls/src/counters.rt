@@ -2,13 +2,13 @@
 use crate::modes::MODE_ROOM;
 use crate::{InForce, orbits};
 use case_text::commands::{Filled, Filling};
+use lines::Append;
 use momentum::Sector;
 use outcome::Refusal;
 use pauli_word::WORD_BYTES;
-use std::io;
-use std::io::Write;
+use std::alloc::AllocError;
 
-pub fn answer(out: &mut Vec<u8>, given: &InForce<'_>, filled: Filled) -> io::Result<()> {
+pub fn answer(out: &mut Vec<u8>, given: &InForce<'_>, filled: Filled) -> Result<(), AllocError> {
     let mut list = [9u32; MODE_ROOM];
     match list.get_mut(..filled.places) {
         Some(counter) => call(out, given, filled.call, counter),
@@ -22,7 +22,7 @@ fn call(
     given: &InForce<'_>,
     call: Filling,
     counter: &mut [u32],
-) -> io::Result<()> {
+) -> Result<(), AllocError> {
     let InForce {
         group,
         n,
@@ -48,7 +48,7 @@ fn call(
     lines::list(out, counter)
 }
 
-fn sector(out: &mut Vec<u8>, n: usize, answer: Result<Sector, Refusal>) -> io::Result<()> {
+fn sector(out: &mut Vec<u8>, n: usize, answer: Result<Sector, Refusal>) -> Result<(), AllocError> {
     match answer {
         Ok(Sector::Kept(kept)) => {
             let size = kept.size;
@@ -61,7 +61,7 @@ fn sector(out: &mut Vec<u8>, n: usize, answer: Result<Sector, Refusal>) -> io::R
 }
 
 // The words of the answers of the four calls on a word, zeros where one has none.
-fn beside(out: &mut Vec<u8>, given: &InForce<'_>, counter: &mut [u32]) -> io::Result<()> {
+fn beside(out: &mut Vec<u8>, given: &InForce<'_>, counter: &mut [u32]) -> Result<(), AllocError> {
     let InForce {
         group,
         n,
@@ -87,7 +87,7 @@ fn beside(out: &mut Vec<u8>, given: &InForce<'_>, counter: &mut [u32]) -> io::Re
 }
 
 // A word by its letters, or that it is zeros.
-fn letters(out: &mut Vec<u8>, n: usize, word: &[u8]) -> io::Result<()> {
+fn letters(out: &mut Vec<u8>, n: usize, word: &[u8]) -> Result<(), AllocError> {
     if word.iter().all(|byte| *byte == 0) {
         write!(out, "zeros")
     } else {

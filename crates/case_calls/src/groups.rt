@@ -3,11 +3,11 @@ use crate::modes::MODE_ROOM;
 use case_text::commands::{Lattice, OfGroup};
 use case_text::{fields, texts};
 use group::Group;
+use lines::Append;
 use outcome::Refusal;
 use pauli_word::MAX_SITES;
 use permutation::{Lent, MAX_GENERATORS, TARGET_PLACES};
-use std::io;
-use std::io::Write;
+use std::alloc::AllocError;
 
 // The most entries of a generator list, and the most orders.
 const LIST_ROOM: usize = 2 * TARGET_PLACES;
@@ -15,7 +15,11 @@ const LIST_ROOM: usize = 2 * TARGET_PLACES;
 const ORDER_ROOM: usize = 4 * MAX_GENERATORS;
 
 // Puts a group in force; after a refusal one that every call refuses.
-pub fn put(out: &mut Vec<u8>, group: &mut Group, made: Result<Group, Refusal>) -> io::Result<()> {
+pub fn put(
+    out: &mut Vec<u8>,
+    group: &mut Group,
+    made: Result<Group, Refusal>,
+) -> Result<(), AllocError> {
     match made {
         Ok(accepted) => {
             *group = accepted;
@@ -38,7 +42,7 @@ pub fn of_lattice(lattice: Lattice) -> Result<Group, Refusal> {
 }
 
 // ` N t t .. / o o ..`: a site count, a generator list and orders. The group before stays in force where the text has another form.
-pub fn read(out: &mut Vec<u8>, group: &mut Group, text: &[u8]) -> io::Result<()> {
+pub fn read(out: &mut Vec<u8>, group: &mut Group, text: &[u8]) -> Result<(), AllocError> {
     match of_text(text) {
         Some(made) => put(out, group, made),
         None => write!(out, "?"),
@@ -59,7 +63,7 @@ fn of_text(text: &[u8]) -> Option<Result<Group, Refusal>> {
 }
 
 // What the calls on a group answer, and the group itself.
-pub fn answer(out: &mut Vec<u8>, group: &Lent<'_>, call: OfGroup<'_>) -> io::Result<()> {
+pub fn answer(out: &mut Vec<u8>, group: &Lent<'_>, call: OfGroup<'_>) -> Result<(), AllocError> {
     match call {
         OfGroup::Order => lines::number(out, group::order(group)),
         OfGroup::Modulus => lines::number(out, group::phase_modulus(group)),
@@ -70,7 +74,7 @@ pub fn answer(out: &mut Vec<u8>, group: &Lent<'_>, call: OfGroup<'_>) -> io::Res
 }
 
 // ` d d ..`.
-fn index_of(out: &mut Vec<u8>, group: &Lent<'_>, text: &[u8]) -> io::Result<()> {
+fn index_of(out: &mut Vec<u8>, group: &Lent<'_>, text: &[u8]) -> Result<(), AllocError> {
     let mut digits = [0u32; MODE_ROOM];
     match fields::numbers(text, &mut digits) {
         Some(counter) => lines::number(out, group::index_from_counter(group, counter)),
@@ -79,7 +83,7 @@ fn index_of(out: &mut Vec<u8>, group: &Lent<'_>, text: &[u8]) -> io::Result<()> 
 }
 
 // Where each generator sends the sites, of a value that has places for them.
-fn targets(out: &mut Vec<u8>, group: &Lent<'_>) -> io::Result<()> {
+fn targets(out: &mut Vec<u8>, group: &Lent<'_>) -> Result<(), AllocError> {
     if MAX_GENERATORS < group.generators || MAX_SITES < group.sites {
         return write!(out, "?");
     }
@@ -90,7 +94,7 @@ fn targets(out: &mut Vec<u8>, group: &Lent<'_>) -> io::Result<()> {
             write!(out, " ")?;
         }
         write!(out, "/")?;
-        lines::list(out, targets.get(..group.sites).unwrap_or(targets))?;
+        lines::numbers(out, targets.get(..group.sites).unwrap_or(targets))?;
     }
     Ok(())
 }

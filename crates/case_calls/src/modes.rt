@@ -1,9 +1,9 @@
 // Modes and their phase numerators.
 use case_text::commands::OfModes;
 use case_text::fields;
+use lines::Append;
 use permutation::{Lent, MAX_GENERATORS};
-use std::io;
-use std::io::Write;
+use std::alloc::AllocError;
 
 // The most places of a list of numerators.
 const TABLE_ROOM: usize = 4096;
@@ -25,7 +25,7 @@ impl Modes {
 }
 
 // ` k k ..`. The modes before stay in force where the text has another form.
-pub fn put(out: &mut Vec<u8>, modes: &mut Modes, text: &[u8]) -> io::Result<()> {
+pub fn put(out: &mut Vec<u8>, modes: &mut Modes, text: &[u8]) -> Result<(), AllocError> {
     let mut list = [0i32; MODE_ROOM];
     match fields::numbers(text, &mut list) {
         Some(read) => {
@@ -43,7 +43,7 @@ pub fn answer(
     group: &Lent<'_>,
     modes: &[i32],
     call: OfModes<'_>,
-) -> io::Result<()> {
+) -> Result<(), AllocError> {
     match call {
         OfModes::Numerator(digits) => numerator(out, group, modes, digits),
         OfModes::Table(places) => table(out, group, modes, places),
@@ -51,7 +51,12 @@ pub fn answer(
 }
 
 // ` d d ..`.
-fn numerator(out: &mut Vec<u8>, group: &Lent<'_>, modes: &[i32], text: &[u8]) -> io::Result<()> {
+fn numerator(
+    out: &mut Vec<u8>,
+    group: &Lent<'_>,
+    modes: &[i32],
+    text: &[u8],
+) -> Result<(), AllocError> {
     let mut digits = [0u32; MODE_ROOM];
     match fields::numbers(text, &mut digits) {
         Some(counter) => {
@@ -61,7 +66,12 @@ fn numerator(out: &mut Vec<u8>, group: &Lent<'_>, modes: &[i32], text: &[u8]) ->
     }
 }
 
-fn table(out: &mut Vec<u8>, group: &Lent<'_>, modes: &[i32], places: usize) -> io::Result<()> {
+fn table(
+    out: &mut Vec<u8>,
+    group: &Lent<'_>,
+    modes: &[i32],
+    places: usize,
+) -> Result<(), AllocError> {
     if TABLE_ROOM < places {
         return write!(out, "?");
     }
@@ -72,5 +82,5 @@ fn table(out: &mut Vec<u8>, group: &Lent<'_>, modes: &[i32], places: usize) -> i
         b"done",
     )?;
     write!(out, ":")?;
-    lines::list(out, &list)
+    lines::numbers(out, &list)
 }

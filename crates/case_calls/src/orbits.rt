@@ -2,17 +2,17 @@
 use crate::InForce;
 use case_text::commands::OfOrbit;
 use group::Group;
+use lines::Append;
 use orbit::{Entry, Walk};
 use outcome::Refusal;
 use pauli_word::WORD_BYTES;
-use std::io;
-use std::io::Write;
+use std::alloc::AllocError;
 
 // The most bytes of an orbit list.
 const LIST_ROOM: usize = 1024 * WORD_BYTES;
 
 // What the calls on a group and a word answer that fill no counter list.
-pub fn answer(out: &mut Vec<u8>, given: &InForce<'_>, call: OfOrbit) -> io::Result<()> {
+pub fn answer(out: &mut Vec<u8>, given: &InForce<'_>, call: OfOrbit) -> Result<(), AllocError> {
     let InForce { group, n, word, .. } = *given;
     match call {
         OfOrbit::Canonicalize => spell(out, n, orbit::canonicalize(&group, n, word)),
@@ -27,14 +27,14 @@ pub fn spell(
     out: &mut Vec<u8>,
     n: usize,
     answer: Result<[u8; WORD_BYTES], Refusal>,
-) -> io::Result<()> {
+) -> Result<(), AllocError> {
     match answer {
         Ok(word) => lines::spell(out, n, &word),
         Err(why) => lines::refusal(out, why),
     }
 }
 
-fn with_index(out: &mut Vec<u8>, given: &InForce<'_>) -> io::Result<()> {
+fn with_index(out: &mut Vec<u8>, given: &InForce<'_>) -> Result<(), AllocError> {
     match orbit::canonicalize_with_index(&given.group, given.n, given.word) {
         Ok(found) => {
             lines::spell(out, given.n, &found.word)?;
@@ -46,7 +46,7 @@ fn with_index(out: &mut Vec<u8>, given: &InForce<'_>) -> io::Result<()> {
 }
 
 // Beside a refusal no word is made.
-fn word_at(out: &mut Vec<u8>, given: &InForce<'_>, index: usize) -> io::Result<()> {
+fn word_at(out: &mut Vec<u8>, given: &InForce<'_>, index: usize) -> Result<(), AllocError> {
     match orbit::word_at_index(&given.group, given.n, given.word, index) {
         Ok(word) => lines::spell(out, given.n, &word),
         Err(why) => {
@@ -56,7 +56,7 @@ fn word_at(out: &mut Vec<u8>, given: &InForce<'_>, index: usize) -> io::Result<(
     }
 }
 
-fn orbit_list(out: &mut Vec<u8>, given: &InForce<'_>, bytes: usize) -> io::Result<()> {
+fn orbit_list(out: &mut Vec<u8>, given: &InForce<'_>, bytes: usize) -> Result<(), AllocError> {
     if LIST_ROOM < bytes {
         return write!(out, "?");
     }
@@ -74,7 +74,7 @@ fn orbit_list(out: &mut Vec<u8>, given: &InForce<'_>, bytes: usize) -> io::Resul
 }
 
 // What a list that was all nines holds after a refusal.
-fn after(out: &mut Vec<u8>, list: &[u8]) -> io::Result<()> {
+fn after(out: &mut Vec<u8>, list: &[u8]) -> Result<(), AllocError> {
     if list.iter().all(|byte| *byte == 9) {
         write!(out, ", as it was")
     } else {
@@ -89,7 +89,7 @@ pub fn begin(
     group: &Group,
     n: usize,
     word: &[u8],
-) -> io::Result<()> {
+) -> Result<(), AllocError> {
     match orbit::orbit(*group, n, word) {
         Ok(begun) => {
             *walk = begun;
@@ -103,7 +103,7 @@ pub fn begin(
 }
 
 // Steps one after another, each from where the one before came to.
-pub fn steps(out: &mut Vec<u8>, walk: &mut Walk, n: usize, count: usize) -> io::Result<()> {
+pub fn steps(out: &mut Vec<u8>, walk: &mut Walk, n: usize, count: usize) -> Result<(), AllocError> {
     for i in 0..count {
         if 0 < i {
             write!(out, "; ")?;
@@ -115,7 +115,11 @@ pub fn steps(out: &mut Vec<u8>, walk: &mut Walk, n: usize, count: usize) -> io::
     Ok(())
 }
 
-fn step(out: &mut Vec<u8>, n: usize, answer: Result<Option<Entry>, Refusal>) -> io::Result<()> {
+fn step(
+    out: &mut Vec<u8>,
+    n: usize,
+    answer: Result<Option<Entry>, Refusal>,
+) -> Result<(), AllocError> {
     match answer {
         Ok(Some(entry)) => {
             let index = entry.index;

@@ -1,10 +1,10 @@
 // Words: read from text and from bytes, written, weighed, compared.
 use case_text::commands::OfWord;
 use case_text::{fields, hexadecimal, texts};
+use lines::Append;
 use pauli_word::WORD_BYTES;
+use std::alloc::AllocError;
 use std::cmp::Ordering;
-use std::io;
-use std::io::Write;
 
 // The most bytes of a word.
 pub const WORD_ROOM: usize = WORD_BYTES + 16;
@@ -34,7 +34,7 @@ impl Word {
 }
 
 // ` TEXT`: its word is in force; after a refusal one of zeros, without sites.
-pub fn read(out: &mut Vec<u8>, word: &mut Word, text: &[u8]) -> io::Result<()> {
+pub fn read(out: &mut Vec<u8>, word: &mut Word, text: &[u8]) -> Result<(), AllocError> {
     match pauli_word::from_text(fields::after_space(text)) {
         Ok(found) => {
             *word = Word::new(found.sites, &found.word);
@@ -48,7 +48,7 @@ pub fn read(out: &mut Vec<u8>, word: &mut Word, text: &[u8]) -> io::Result<()> {
 }
 
 // ` N HEX`, or ` N`. The word before stays in force where the text has another form.
-pub fn put(out: &mut Vec<u8>, word: &mut Word, text: &[u8]) -> io::Result<()> {
+pub fn put(out: &mut Vec<u8>, word: &mut Word, text: &[u8]) -> Result<(), AllocError> {
     match of_bytes(text) {
         Some(read) => {
             *word = read;
@@ -67,13 +67,18 @@ fn of_bytes(text: &[u8]) -> Option<Word> {
 }
 
 // Puts the word in force in the old form.
-pub fn make_old(out: &mut Vec<u8>, word: &mut Word) -> io::Result<()> {
+pub fn make_old(out: &mut Vec<u8>, word: &mut Word) -> Result<(), AllocError> {
     *word = Word::new(word.n, &texts::old_form(&word.bytes));
     write!(out, "set")
 }
 
 // What the calls on a word answer.
-pub fn answer(out: &mut Vec<u8>, n: usize, word: &[u8], call: OfWord<'_>) -> io::Result<()> {
+pub fn answer(
+    out: &mut Vec<u8>,
+    n: usize,
+    word: &[u8],
+    call: OfWord<'_>,
+) -> Result<(), AllocError> {
     match call {
         OfWord::Text => text(out, n, word),
         OfWord::Weight => lines::number(out, pauli_word::weight(n, word)),
@@ -82,14 +87,14 @@ pub fn answer(out: &mut Vec<u8>, n: usize, word: &[u8], call: OfWord<'_>) -> io:
     }
 }
 
-fn text(out: &mut Vec<u8>, n: usize, word: &[u8]) -> io::Result<()> {
+fn text(out: &mut Vec<u8>, n: usize, word: &[u8]) -> Result<(), AllocError> {
     match pauli_word::to_text(n, word) {
         Ok(written) => lines::letters(out, &written),
         Err(why) => lines::refusal(out, why),
     }
 }
 
-fn compare_bytes(out: &mut Vec<u8>, n: usize, word: &[u8], text: &[u8]) -> io::Result<()> {
+fn compare_bytes(out: &mut Vec<u8>, n: usize, word: &[u8], text: &[u8]) -> Result<(), AllocError> {
     let mut list = [0u8; WORD_ROOM];
     match hexadecimal::read(text, &mut list) {
         Some(other) => compare(out, n, word, other),
@@ -98,14 +103,14 @@ fn compare_bytes(out: &mut Vec<u8>, n: usize, word: &[u8], text: &[u8]) -> io::R
 }
 
 // With zeros where the text is refused.
-fn compare_text(out: &mut Vec<u8>, n: usize, word: &[u8], text: &[u8]) -> io::Result<()> {
+fn compare_text(out: &mut Vec<u8>, n: usize, word: &[u8], text: &[u8]) -> Result<(), AllocError> {
     match pauli_word::from_text(text) {
         Ok(other) => compare(out, n, word, &other.word),
         Err(_) => compare(out, n, word, &[0u8; WORD_BYTES]),
     }
 }
 
-fn compare(out: &mut Vec<u8>, n: usize, word: &[u8], other: &[u8]) -> io::Result<()> {
+fn compare(out: &mut Vec<u8>, n: usize, word: &[u8], other: &[u8]) -> Result<(), AllocError> {
     match pauli_word::compare(n, word, other) {
         Ok(Ordering::Less) => write!(out, "less"),
         Ok(Ordering::Equal) => write!(out, "same"),

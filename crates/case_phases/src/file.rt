@@ -4,19 +4,23 @@ ghost use Rattle.std.specs.Prelude.{◌<◌, length, IfSome};
 
 use crate::own;
 use case_text::texts;
-use std::io;
 
-// Appends what a text stands for.
-pub fn expand(file: &mut Vec<u8>, text: &[u8]) -> io::Result<()> {
+// Writes what a text stands for at the front of a list; its length. A list that is full stays as it is: what fills a list whole is too long for it.
+pub fn expand(text: &[u8], list: &mut [u8]) -> usize {
+    let mut place = 0;
     let mut rest = text;
+    // How much of the text a piece takes shows only where it is read.
     while let Some((piece, after)) = first_piece(rest) {
-        match own::read(piece) {
-            Some(lines) => own::append(file, lines)?,
-            None => texts::expand(file, piece)?,
+        if list.len() <= place {
+            break;
         }
+        place = match own::read(piece) {
+            Some(lines) => own::append(lines, list, place),
+            None => texts::expand(piece, list, place),
+        };
         rest = after;
     }
-    Ok(())
+    place
 }
 
 // The first piece of a text, and what stands after it. A piece is what brackets enclose, with them, or what stands before the next bracket.

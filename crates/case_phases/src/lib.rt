@@ -6,25 +6,25 @@ mod own;
 
 use case_text::fields;
 use case_text::texts::TEXT_ROOM;
+use lines::Append;
 use phases::PhaseTable;
-use std::io;
-use std::io::Write;
+use std::alloc::AllocError;
 
-// Puts the table of a file in force, after a refusal the constant one; the one before stays where the text is too long.
-pub fn read(out: &mut Vec<u8>, table: &mut PhaseTable, text: &[u8]) -> io::Result<()> {
-    let mut file = Vec::new(*out.allocator());
-    file::expand(&mut file, fields::after_space(text))?;
-    if TEXT_ROOM <= file.len() {
+// Puts the table that the text of a file hands back in force; the one before stays where the text is too long.
+pub fn read(out: &mut Vec<u8>, table: &mut PhaseTable, text: &[u8]) -> Result<(), AllocError> {
+    let mut file = [0u8; TEXT_ROOM];
+    let length = file::expand(fields::after_space(text), &mut file);
+    if TEXT_ROOM <= length {
         return write!(out, "?");
     }
-    match phase_file::read_phase_table(&file) {
+    match phase_file::read_phase_table(&file[..length]) {
         Ok(read) => {
             *table = read;
             write!(out, "accepted")?;
         }
-        Err(why) => {
-            *table = phases::phase_table();
-            lines::refusal(out, why)?;
+        Err(refused) => {
+            *table = refused.table;
+            lines::refusal(out, refused.why)?;
         }
     }
     if is_constant(table) {
@@ -41,7 +41,7 @@ fn is_constant(table: &PhaseTable) -> bool {
 }
 
 // Prints entry j.
-pub fn entry(out: &mut Vec<u8>, table: &PhaseTable, j: usize) -> io::Result<()> {
+pub fn entry(out: &mut Vec<u8>, table: &PhaseTable, j: usize) -> Result<(), AllocError> {
     match (table.cosines.get(j), table.sines.get(j)) {
         (Some(cosine), Some(sine)) => write!(out, "{cosine} {sine}"),
         _ => write!(out, "?"),

@@ -1,7 +1,7 @@
 // The constant table's own print, by its lines: line 1 has the names, and line j + 2 entry j.
 use case_text::{fields, texts};
 use std::io;
-use std::io::Write;
+use std::io::{Cursor, Write};
 
 // Lines of it, with the last.
 #[derive(Clone, Copy)]
@@ -20,8 +20,19 @@ pub fn read(piece: &[u8]) -> Option<Lines> {
     })
 }
 
-// Appends lines, those that there are.
-pub fn append(file: &mut Vec<u8>, lines: Lines) -> io::Result<()> {
+// Writes lines at a place of a list, those that there are; the place after them, or the list's end where it has no room for them.
+pub fn append(lines: Lines, list: &mut [u8], start: usize) -> usize {
+    let end = list.len();
+    let mut file = Cursor::new(list);
+    file.set_position(start as u64);
+    match print(&mut file, lines) {
+        Ok(()) => file.position() as usize,
+        Err(_) => end,
+    }
+}
+
+// Prints lines, those that there are.
+fn print<W: Write>(file: &mut W, lines: Lines) -> io::Result<()> {
     let Lines { from, to } = lines;
     if from <= 1 && 1 <= to {
         write!(file, "cos sin\n")?;

@@ -4,13 +4,12 @@
 use case_calls::InForce;
 use case_text::lists::{Lengths, Lists};
 use case_text::rows::Rows;
+use lines::Append;
 use outcome::Refusal;
 use pauli_word::WORD_BYTES;
 use phases::PhaseTable;
 use project::Projection;
 use std::alloc::{AllocError, Global};
-use std::io;
-use std::io::Write;
 
 // The lists that the call fills.
 #[derive(Drop)]
@@ -27,7 +26,7 @@ pub fn project(
     table: PhaseTable,
     rows: &Rows,
     lists: &Lists,
-) -> io::Result<()> {
+) -> Result<(), AllocError> {
     let Some(lengths) = lists.lengths(rows.count()) else {
         return write!(out, "?");
     };
@@ -73,7 +72,7 @@ impl Projected {
         n: usize,
         answer: Result<Projection, Refusal>,
         lists: &Lists,
-    ) -> io::Result<()> {
+    ) -> Result<(), AllocError> {
         match answer {
             Ok(Projection { kept, dropped }) => {
                 write!(out, "{kept} kept, {dropped} dropped:")?;
@@ -91,7 +90,7 @@ impl Projected {
     }
 
     // What the lists hold after a refusal.
-    fn after(&self, out: &mut Vec<u8>) -> io::Result<()> {
+    fn after(&self, out: &mut Vec<u8>) -> Result<(), AllocError> {
         let nines = self.representatives.iter().all(|x| *x == 9)
             && self.cosines.iter().all(|x| *x == 9)
             && self.sines.iter().all(|x| *x == 9);
@@ -103,7 +102,7 @@ impl Projected {
     }
 
     // The rows of the table, one if a row is kept, and then all whose words are not zeros; and whether anything but zeros stands after them.
-    fn table(&self, out: &mut Vec<u8>, n: usize, kept: usize) -> io::Result<()> {
+    fn table(&self, out: &mut Vec<u8>, n: usize, kept: usize) -> Result<(), AllocError> {
         let mut first = true;
         let mut over = kept == 0;
         let mut more = false;
@@ -126,7 +125,7 @@ impl Projected {
     }
 
     // Rows from one to before another.
-    fn rows(&self, out: &mut Vec<u8>, n: usize, from: usize, to: usize) -> io::Result<()> {
+    fn rows(&self, out: &mut Vec<u8>, n: usize, from: usize, to: usize) -> Result<(), AllocError> {
         let words = self.representatives.chunks_exact(WORD_BYTES);
         let sums = self.cosines.iter().zip(self.sines.iter());
         for (word, (cosine, sine)) in words.zip(sums).take(to).skip(from) {
@@ -136,7 +135,13 @@ impl Projected {
     }
 }
 
-fn print_row(out: &mut Vec<u8>, n: usize, word: &[u8], cosine: i64, sine: i64) -> io::Result<()> {
+fn print_row(
+    out: &mut Vec<u8>,
+    n: usize,
+    word: &[u8],
+    cosine: i64,
+    sine: i64,
+) -> Result<(), AllocError> {
     write!(out, " ")?;
     lines::spell(out, n, word)?;
     write!(out, " {cosine} {sine}")

@@ -2,11 +2,10 @@
 use case_calls::InForce;
 use case_text::lists::{Lengths, Lists};
 use case_text::rows::Rows;
+use lines::Append;
 use outcome::Refusal;
 use pauli_word::WORD_BYTES;
 use std::alloc::{AllocError, Global};
-use std::io;
-use std::io::Write;
 
 // The lists that the call fills.
 #[derive(Drop)]
@@ -17,7 +16,12 @@ struct Folded {
 }
 
 // Folds the rows in the fronts of lists.
-pub fn fold(out: &mut Vec<u8>, given: &InForce<'_>, rows: &Rows, lists: &Lists) -> io::Result<()> {
+pub fn fold(
+    out: &mut Vec<u8>,
+    given: &InForce<'_>,
+    rows: &Rows,
+    lists: &Lists,
+) -> Result<(), AllocError> {
     let Some(lengths) = lists.lengths(rows.count()) else {
         return write!(out, "?");
     };
@@ -60,7 +64,7 @@ impl Folded {
         n: usize,
         answer: Result<usize, Refusal>,
         lists: &Lists,
-    ) -> io::Result<()> {
+    ) -> Result<(), AllocError> {
         match answer {
             Ok(count) => {
                 write!(out, "{count} rows:")?;
@@ -74,7 +78,7 @@ impl Folded {
     }
 
     // Rows from one to before another.
-    fn rows(&self, out: &mut Vec<u8>, n: usize, from: usize, to: usize) -> io::Result<()> {
+    fn rows(&self, out: &mut Vec<u8>, n: usize, from: usize, to: usize) -> Result<(), AllocError> {
         let words = self.representatives.chunks_exact(WORD_BYTES);
         let numbers = self.sums.iter().zip(self.counts.iter());
         for (word, (sum, count)) in words.zip(numbers).take(to).skip(from) {
@@ -88,7 +92,7 @@ impl Folded {
     }
 
     // What the lists hold after a refusal.
-    fn after(&self, out: &mut Vec<u8>) -> io::Result<()> {
+    fn after(&self, out: &mut Vec<u8>) -> Result<(), AllocError> {
         if self.all_are(9, 9.0) {
             write!(out, ", as they were")
         } else if self.all_are(0, 0.0) {

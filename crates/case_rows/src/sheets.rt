@@ -2,18 +2,17 @@
 use case_text::commands::Sheet;
 use case_text::texts::TEXT_ROOM;
 use case_text::{fields, texts};
+use lines::Append;
 use outcome::Refusal;
 use sheet_text::{MAX_TABLE, Printed};
-use std::alloc::{AllocError, Global};
-use std::io;
-use std::io::Write;
+use std::alloc::AllocError;
 
 // The most bytes of a lent list, and how many bytes of a table `sheet_end` prints.
 const LIST_ROOM: usize = 512;
 
 const LAST: usize = 24;
 
-pub fn answer(out: &mut Vec<u8>, sheet: Sheet<'_>) -> io::Result<()> {
+pub fn answer(out: &mut Vec<u8>, sheet: Sheet<'_>) -> Result<(), AllocError> {
     match sheet {
         Sheet::Whole(text) => print(out, fields::after_space(text), true),
         Sheet::End(text) => print(out, fields::after_space(text), false),
@@ -34,21 +33,24 @@ fn read_in(text: &[u8]) -> Option<(usize, &[u8])> {
     Some((length, fields::after_space(rest)))
 }
 
-// The sheet that a text stands for, if it is not too long.
-fn expanded(alloc: Global, text: &[u8]) -> Result<Option<Vec<u8>>, AllocError> {
-    let mut input = Vec::new(alloc);
-    texts::expand(&mut input, text)?;
-    Ok((input.len() < TEXT_ROOM).then_some(input))
+// The sheet that a text stands for, at the front of a list, if it is not too long for it.
+fn expanded<'a>(text: &[u8], list: &'a mut [u8]) -> Option<&'a [u8]> {
+    let length = texts::expand(text, list, 0);
+    if length < list.len() {
+        Some(&list[..length])
+    } else {
+        None
+    }
 }
 
 // What a sheet prints, whole or its end.
-fn print(out: &mut Vec<u8>, text: &[u8], whole: bool) -> io::Result<()> {
-    let alloc = *out.allocator();
-    let Some(input) = expanded(alloc, text)? else {
+fn print(out: &mut Vec<u8>, text: &[u8], whole: bool) -> Result<(), AllocError> {
+    let mut room = [0u8; TEXT_ROOM];
+    let Some(input) = expanded(text, &mut room) else {
         return write!(out, "?");
     };
-    let mut table = vec![in alloc; 0u8; MAX_TABLE]?;
-    let length = match sheet_text::sheet_text(&input, &mut table) {
+    let mut table = vec![in *out.allocator(); 0u8; MAX_TABLE]?;
+    let length = match sheet_text::sheet_text(input, &mut table) {
         Printed::Table(length) | Printed::Refused(_, _, length) => length,
         Printed::ListLength => return lines::refusal(out, Refusal::ListLength),
     };
@@ -62,20 +64,20 @@ fn print(out: &mut Vec<u8>, text: &[u8], whole: bool) -> io::Result<()> {
 }
 
 // The length of a sheet and of what it prints, and the last bytes of that.
-fn end(out: &mut Vec<u8>, table: &[u8], bytes: usize) -> io::Result<()> {
+fn end(out: &mut Vec<u8>, table: &[u8], bytes: usize) -> Result<(), AllocError> {
     let length = table.len();
     write!(out, "{bytes} {length}: ")?;
     out.write_all(&table[length.saturating_sub(LAST)..])
 }
 
 // What a sheet prints into a list of dots.
-fn print_in(out: &mut Vec<u8>, length: usize, text: &[u8]) -> io::Result<()> {
-    let alloc = *out.allocator();
-    let Some(input) = expanded(alloc, text)? else {
+fn print_in(out: &mut Vec<u8>, length: usize, text: &[u8]) -> Result<(), AllocError> {
+    let mut room = [0u8; TEXT_ROOM];
+    let Some(input) = expanded(text, &mut room) else {
         return write!(out, "?");
     };
-    let mut list = vec![in alloc; b'.'; length]?;
-    match sheet_text::sheet_text(&input, &mut list) {
+    let mut list = vec![in *out.allocator(); b'.'; length]?;
+    match sheet_text::sheet_text(input, &mut list) {
         Printed::Table(length) => write!(out, "table {length}")?,
         Printed::Refused(why, line, length) => {
             lines::refusal(out, why)?;

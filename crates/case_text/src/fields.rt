@@ -1,4 +1,5 @@
 // The fields of a line after its name, each with a space before it: numbers, lists of numbers.
+ghost use Rattle.std.specs.Prelude.{◌<◌, ◌≤◌, length};
 
 // What a field writes: a number of one kind.
 pub trait Field: Copy {
@@ -25,9 +26,24 @@ impl Field for i32 {
 
 // The field at a text's front, without its space, and what stands after it.
 pub fn first(text: &[u8]) -> Option<(&[u8], &[u8])> {
-    let (_, fields) = text.split_first()?;
-    let end = fields.iter().position(|byte| *byte == b' ');
-    fields.split_at_checked(end.unwrap_or(fields.len()))
+    if text.is_empty() {
+        return None;
+    }
+    let end = field_end(text, 0);
+    Some((&text[1..end], &text[end..]))
+}
+
+// The place after the field whose space stands at a place: of the next space, or the text's end.
+pub fn field_end(text: &[u8], at: usize) -> usize
+    requires { at < length text.now }
+    ensures { (at < result) × (result ≤ length text.now) }
+{
+    let start = at + 1;
+    let rest = &text[start..];
+    match rest.iter().position(|byte| *byte == b' ') {
+        Some(k) => start + k,
+        None => text.len(),
+    }
 }
 
 // The text without the space that it begins with.

@@ -1,11 +1,13 @@
 // The rows of a sum, as lines put them together: their words, and their coefficients, as floats and as whole numbers.
 use crate::commands::RowsLine;
-use crate::lists::ROW_ROOM;
+use crate::lists::{ROW_BYTES, ROW_ROOM};
 use crate::{fields, hexadecimal, texts};
 use pauli_word::{OLD_WORD_BYTES, WORD_BYTES};
 use std::alloc::{AllocError, Global};
+use std::borrow::CowSlice;
 
-// Words of WORD_BYTES bytes, and as many coefficients of either kind.
+// Words of WORD_BYTES bytes, and as many coefficients of either kind. With the first row the words take the room of all rows that there may be, and
+// zeros stand after the last.
 #[derive(Drop)]
 pub struct Rows {
     words: Vec<u8>,
@@ -45,33 +47,18 @@ impl Rows {
     }
 
     // The first bytes of the words, and zeros after the last.
-    pub fn words(&self, length: usize) -> Result<Vec<u8>, AllocError> {
-        let mut list = Vec::from_slice(
-            *self.words.allocator(),
-            self.words.get(..length).unwrap_or(&self.words),
-        )?;
-        list.resize(length, 0)?;
-        Ok(list)
+    pub fn words(&self, length: usize) -> Result<CowSlice<'_, u8>, AllocError> {
+        filled_up(&self.words, length, 0)
     }
 
     // The first coefficients as floats, and zeros after the last.
-    pub fn floats(&self, length: usize) -> Result<Vec<f64>, AllocError> {
-        let mut list = Vec::from_slice(
-            *self.floats.allocator(),
-            self.floats.get(..length).unwrap_or(&self.floats),
-        )?;
-        list.resize(length, 0.0)?;
-        Ok(list)
+    pub fn floats(&self, length: usize) -> Result<CowSlice<'_, f64>, AllocError> {
+        filled_up(&self.floats, length, 0.0)
     }
 
     // The first coefficients as whole numbers, and zeros after the last.
-    pub fn wholes(&self, length: usize) -> Result<Vec<i64>, AllocError> {
-        let mut list = Vec::from_slice(
-            *self.wholes.allocator(),
-            self.wholes.get(..length).unwrap_or(&self.wholes),
-        )?;
-        list.resize(length, 0)?;
-        Ok(list)
+    pub fn wholes(&self, length: usize) -> Result<CowSlice<'_, i64>, AllocError> {
+        filled_up(&self.wholes, length, 0)
     }
 
     // Changes the rows as a line says, with the word in force; none where it has another form.
@@ -89,7 +76,9 @@ impl Rows {
     }
 
     fn clear(&mut self) {
-        self.words.clear();
+        for row in 0..self.count() {
+            write_word(&mut self.words, row, &[]);
+        }
         self.floats.clear();
         self.wholes.clear();
     }
@@ -103,9 +92,10 @@ impl Rows {
 
     // A row more, its word cut or filled up with zeros.
     fn push(&mut self, word: &[u8], float: f64, whole: i64) -> Result<(), AllocError> {
-        let mut full = [0u8; WORD_BYTES];
-        texts::write(word, &mut full);
-        self.words.extend_from_slice(&full)?;
+        if self.words.is_empty() {
+            self.words.resize(ROW_BYTES, 0)?;
+        }
+        write_word(&mut self.words, self.wholes.len(), word);
         self.floats.push(float)?;
         self.wholes.push(whole)?;
         Ok(())
@@ -124,12 +114,41 @@ impl Rows {
     // Writes the words again, each in the old form, one after the other from the front.
     fn make_old(&mut self) {
         for row in 0..self.count() {
-            let word = self.words.chunks_exact(WORD_BYTES).nth(row);
-            let old = texts::old_form(word.unwrap_or(&[]));
-            if let Some(place) = self.words.chunks_exact_mut(OLD_WORD_BYTES).nth(row) {
-                texts::write(&old, place);
-            }
+            write_old(&mut self.words, row);
         }
+    }
+}
+
+// The front of a list, which is lent; or the whole list, copied, and zeros after it.
+fn filled_up<T: Copy>(
+    list: &Vec<T>,
+    length: usize,
+    zero: T,
+) -> Result<CowSlice<'_, T>, AllocError> {
+    if let Some(front) = list.get(..length) {
+        return Ok(CowSlice::Borrowed(front));
+    }
+    let mut copy = Vec::with_capacity(*list.allocator(), length)?;
+    copy.extend_from_slice(list)?;
+    copy.resize(length, zero)?;
+    Ok(CowSlice::Owned(copy))
+}
+
+// Writes the word of a row, cut or filled up with zeros.
+fn write_word(words: &mut [u8], row: usize, word: &[u8]) {
+    if row < words.len() / WORD_BYTES {
+        let at = WORD_BYTES * row;
+        texts::write(word, &mut words[at..at + WORD_BYTES]);
+    }
+}
+
+// Writes the word of a row in the old form, at its place among words of that form.
+fn write_old(words: &mut [u8], row: usize) {
+    if row < words.len() / WORD_BYTES {
+        let from = WORD_BYTES * row;
+        let old = texts::old_form(&words[from..from + WORD_BYTES]);
+        let to = OLD_WORD_BYTES * row;
+        texts::write(&old, &mut words[to..to + OLD_WORD_BYTES]);
     }
 }
 

@@ -4,7 +4,6 @@ ghost use Rattle.std.specs.Prelude.{◌<◌, length, IfSome};
 
 use crate::{fields, hexadecimal};
 use pauli_word::{OLD_PLANE_BYTES, OLD_WORD_BYTES, PLANE_BYTES};
-use std::alloc::AllocError;
 
 // The most bytes of a line, and of the sheet or file that it writes, and one: what has as many is too long.
 pub const TEXT_ROOM: usize = 131072;
@@ -43,17 +42,32 @@ pub fn split_once(text: &[u8], byte: u8) -> Option<(&[u8], &[u8])>
     Some((&text[..at], &text[at + 1..]))
 }
 
-// Appends what a text stands for.
-pub fn expand(list: &mut Vec<u8>, text: &[u8]) -> Result<(), AllocError> {
+// Writes what a text stands for at a place of a list; the place after it. A list that is full stays as it is: what fills it whole is too long for it.
+pub fn expand(text: &[u8], list: &mut [u8], start: usize) -> usize {
+    let mut place = start;
     let mut rest = text;
+    // How much of the text a piece takes shows only where it is read.
     while let Some((piece, after)) = first_piece(rest) {
-        match piece {
-            Piece::Byte(byte) => list.push(byte)?,
-            Piece::Times(count, times) => append_times(list, times, count)?,
+        if list.len() <= place {
+            break;
         }
+        place = match piece {
+            Piece::Byte(byte) => put(list, place, byte),
+            Piece::Times(count, times) => append_times(times, list, place, count),
+        };
         rest = after;
     }
-    Ok(())
+    place
+}
+
+// Writes a byte at a place of a list; the place after it.
+fn put(list: &mut [u8], at: usize, byte: u8) -> usize {
+    if at < list.len() {
+        list[at] = byte;
+        at + 1
+    } else {
+        at
+    }
 }
 
 // What the front of a text stands for, and what stands after it.
@@ -87,15 +101,21 @@ fn escaped(text: &[u8]) -> Option<(Piece<'_>, &[u8])>
     Some((Piece::Byte(hexadecimal::byte(*high, *low)?), after))
 }
 
-// Appends a text so many times, until there is no room.
-fn append_times(list: &mut Vec<u8>, text: &[u8], count: u64) -> Result<(), AllocError> {
-    for _ in 0..count.min(TEXT_ROOM as u64) {
-        if TEXT_ROOM <= list.len() {
+// Writes a text so many times at a place of a list, until that is full; the place after it.
+fn append_times(text: &[u8], list: &mut [u8], start: usize, count: u64) -> usize {
+    let mut place = start;
+    if text.is_empty() {
+        return place;
+    }
+    for _ in 0..count {
+        if list.len() <= place {
             break;
         }
-        list.extend(text.iter().map(|byte| unbarred(*byte)))?;
+        for byte in text {
+            place = put(list, place, unbarred(*byte));
+        }
     }
-    Ok(())
+    place
 }
 
 // A byte, byte 10 for a bar.

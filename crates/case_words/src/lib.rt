@@ -4,11 +4,10 @@
 use case_calls::InForce;
 use case_text::lists::{Lengths, Lists};
 use case_text::rows::Rows;
+use lines::Append;
 use outcome::Refusal;
 use pauli_word::WORD_BYTES;
 use std::alloc::{AllocError, Global};
-use std::io;
-use std::io::Write;
 
 // The lists that a call fills. The call without modes leaves the sizes as they are.
 #[derive(Drop)]
@@ -24,7 +23,7 @@ pub fn canonicalize(
     given: &InForce<'_>,
     rows: &Rows,
     lists: &Lists,
-) -> io::Result<()> {
+) -> Result<(), AllocError> {
     let Some(lengths) = lists.lengths(rows.count()) else {
         return write!(out, "?");
     };
@@ -49,7 +48,7 @@ pub fn in_sector(
     given: &InForce<'_>,
     rows: &Rows,
     lists: &Lists,
-) -> io::Result<()> {
+) -> Result<(), AllocError> {
     let Some(lengths) = lists.lengths(rows.count()) else {
         return write!(out, "?");
     };
@@ -81,7 +80,7 @@ impl Answered {
     }
 
     // How many rows there are, or the refusal and what the lists hold after it.
-    fn begin(&self, out: &mut Vec<u8>, answer: Result<(), Refusal>) -> io::Result<()> {
+    fn begin(&self, out: &mut Vec<u8>, answer: Result<(), Refusal>) -> Result<(), AllocError> {
         if let Err(why) = answer {
             lines::refusal(out, why)?;
             return self.after(out);
@@ -90,7 +89,7 @@ impl Answered {
         write!(out, "{count} rows:")
     }
 
-    fn after(&self, out: &mut Vec<u8>) -> io::Result<()> {
+    fn after(&self, out: &mut Vec<u8>) -> Result<(), AllocError> {
         let nines = self.representatives.iter().all(|x| *x == 9)
             && self.indices.iter().all(|x| *x == 9)
             && self.sizes.iter().all(|x| *x == 9);
@@ -102,7 +101,7 @@ impl Answered {
     }
 
     // The rows with their indices.
-    fn print_least(&self, out: &mut Vec<u8>, n: usize, lists: &Lists) -> io::Result<()> {
+    fn print_least(&self, out: &mut Vec<u8>, n: usize, lists: &Lists) -> Result<(), AllocError> {
         let words = self.representatives.chunks_exact(WORD_BYTES);
         let rows = words.zip(self.indices.iter());
         for (word, index) in rows.take(lists.end(self.indices.len())).skip(lists.from) {
@@ -114,7 +113,7 @@ impl Answered {
     }
 
     // The rows with their indices and sizes; of a dropped one a dash for zeros.
-    fn print_decided(&self, out: &mut Vec<u8>, n: usize, lists: &Lists) -> io::Result<()> {
+    fn print_decided(&self, out: &mut Vec<u8>, n: usize, lists: &Lists) -> Result<(), AllocError> {
         let words = self.representatives.chunks_exact(WORD_BYTES);
         let rows = words.zip(self.indices.iter().zip(self.sizes.iter()));
         let end = lists.end(self.indices.len());

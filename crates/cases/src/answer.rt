@@ -5,11 +5,11 @@ use case_calls::{counters, groups, modes, orbits, words};
 use case_rows::{folds, sheets};
 use case_text::commands;
 use case_text::commands::{Ask, Command, Put};
-use std::io;
-use std::io::Write;
+use lines::Append;
+use std::alloc::AllocError;
 
 // Prints a line for a line.
-pub fn line(out: &mut Vec<u8>, state: &mut State, line: &[u8]) -> io::Result<()> {
+pub fn line(out: &mut Vec<u8>, state: &mut State, line: &[u8]) -> Result<(), AllocError> {
     if line.is_empty() || line.starts_with(b"#") {
         out.write_all(line)?;
     } else {
@@ -21,14 +21,14 @@ pub fn line(out: &mut Vec<u8>, state: &mut State, line: &[u8]) -> io::Result<()>
     write!(out, "\n")
 }
 
-fn answer(out: &mut Vec<u8>, state: &mut State, command: Command<'_>) -> io::Result<()> {
+fn answer(out: &mut Vec<u8>, state: &mut State, command: Command<'_>) -> Result<(), AllocError> {
     match command {
         Command::Put(line) => put(out, state, line),
         Command::Ask(line) => ask(out, state, line),
     }
 }
 
-fn put(out: &mut Vec<u8>, state: &mut State, line: Put<'_>) -> io::Result<()> {
+fn put(out: &mut Vec<u8>, state: &mut State, line: Put<'_>) -> Result<(), AllocError> {
     match line {
         Put::Group(text) => groups::read(out, &mut state.group, text),
         Put::Lattice(lattice) => groups::put(out, &mut state.group, groups::of_lattice(lattice)),
@@ -60,14 +60,14 @@ fn put(out: &mut Vec<u8>, state: &mut State, line: Put<'_>) -> io::Result<()> {
 }
 
 // Whether something was put in force.
-fn set(out: &mut Vec<u8>, done: Option<()>) -> io::Result<()> {
+fn set(out: &mut Vec<u8>, done: Option<()>) -> Result<(), AllocError> {
     match done {
         Some(()) => write!(out, "set"),
         None => write!(out, "?"),
     }
 }
 
-fn ask(out: &mut Vec<u8>, state: &State, line: Ask<'_>) -> io::Result<()> {
+fn ask(out: &mut Vec<u8>, state: &State, line: Ask<'_>) -> Result<(), AllocError> {
     let given = state.in_force();
     match line {
         Ask::OfGroup(call) => groups::answer(out, &given.group, call),

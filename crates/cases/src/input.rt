@@ -2,7 +2,7 @@
 use crate::answer;
 use crate::state::State;
 use case_text::texts::TEXT_ROOM;
-use std::alloc::Global;
+use std::alloc::{AllocError, Global};
 use std::io;
 use std::io::{Read, Write};
 
@@ -41,7 +41,7 @@ impl Reading {
         match input.read(&mut bytes) {
             Ok(0) => {
                 if !self.line.is_empty() {
-                    write!(out, "?\n")?;
+                    out.extend_from_slice(b"?\n")?;
                 }
                 Ok(false)
             }
@@ -50,14 +50,14 @@ impl Reading {
                 Ok(true)
             }
             Err(_) => {
-                write!(out, "?\n")?;
+                out.extend_from_slice(b"?\n")?;
                 Ok(false)
             }
         }
     }
 
     // Answers the lines that end in these bytes, and keeps what stands after them.
-    fn take(&mut self, out: &mut Vec<u8>, bytes: &[u8]) -> io::Result<()> {
+    fn take(&mut self, out: &mut Vec<u8>, bytes: &[u8]) -> Result<(), AllocError> {
         for piece in bytes.split_inclusive(|byte| *byte == b'\n') {
             if let Some((b'\n', end)) = piece.split_last() {
                 self.append(end)?;
@@ -71,18 +71,18 @@ impl Reading {
     }
 
     // Appends bytes to the line, until there is no room.
-    fn append(&mut self, bytes: &[u8]) -> io::Result<()> {
+    fn append(&mut self, bytes: &[u8]) -> Result<(), AllocError> {
         if self.line.len() < TEXT_ROOM {
             self.line.extend_from_slice(bytes)?;
         }
         Ok(())
     }
 
-    fn answer(&mut self, out: &mut Vec<u8>) -> io::Result<()> {
+    fn answer(&mut self, out: &mut Vec<u8>) -> Result<(), AllocError> {
         if self.line.len() < TEXT_ROOM {
             answer::line(out, &mut self.state, &self.line)
         } else {
-            write!(out, "?\n")
+            out.extend_from_slice(b"?\n")
         }
     }
 }

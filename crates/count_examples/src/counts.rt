@@ -1,32 +1,31 @@
 // Counts over all words of 2 and of 4 sites: how many representatives each mode list keeps, and how many mode lists keep a word.
 ghost use Rattle.std.specs.Prelude.{◌≤◌, IfOk};
 
-use anyhow::{Error, Result, anyhow};
 use momentum::Sector;
 use outcome::Refusal;
 use pauli_word::{PLANE_BYTES, WORD_BYTES};
 use permutation::Lent;
 use std::cmp::Ordering;
-use std::io::Write;
+use std::io;
+use std::io::{ErrorKind, Write};
 
 // The mode lists of a torus of 2 by 2.
 const TORUS_MODES: [[i32; 2]; 4] = [[0, 0], [1, 0], [0, 1], [1, 1]];
 
 // No call here is refused.
-fn refused(why: Refusal) -> Error {
-    let rule = outcome::rule_number(why);
-    anyhow!("a call refused its input by rule {rule}")
+fn refused(_why: Refusal) -> io::Error {
+    io::Error::new(ErrorKind::InvalidInput, "a call refused its input")
 }
 
 // The 16 words of a ring of 2.
-pub fn chain(out: &mut Vec<u8>) -> Result<()> {
+pub fn chain(out: &mut Vec<u8>) -> io::Result<()> {
     let even = chain_at(out, 0)?;
     let odd = chain_at(out, 1)?;
     write!(out, "chain 2, both modes: ")?;
     pairs(out, even + odd, 16)
 }
 
-fn chain_at(out: &mut Vec<u8>, mode: i32) -> Result<usize>
+fn chain_at(out: &mut Vec<u8>, mode: i32) -> io::Result<usize>
     ensures { IfOk result (λ count. count ≤ 16) }
 {
     let group = group::chain_1d(2).map_err(refused)?;
@@ -34,7 +33,7 @@ fn chain_at(out: &mut Vec<u8>, mode: i32) -> Result<usize>
 }
 
 // The 256 words of a torus of 2 by 2.
-pub fn torus(out: &mut Vec<u8>) -> Result<()> {
+pub fn torus(out: &mut Vec<u8>) -> io::Result<()> {
     let a = torus_at(out, [0, 0])?;
     let b = torus_at(out, [1, 0])?;
     let c = torus_at(out, [0, 1])?;
@@ -43,19 +42,18 @@ pub fn torus(out: &mut Vec<u8>) -> Result<()> {
     pairs(out, a + b + c + d, 256)
 }
 
-fn torus_at(out: &mut Vec<u8>, modes: [i32; 2]) -> Result<usize>
+fn torus_at(out: &mut Vec<u8>, modes: [i32; 2]) -> io::Result<usize>
     ensures { IfOk result (λ count. count ≤ 256) }
 {
     let group = group::torus_2d(2, 2).map_err(refused)?;
     representatives(out, "torus 2 by 2", &group.lent(), 4, 256, &modes)
 }
 
-fn pairs(out: &mut Vec<u8>, count: usize, words: usize) -> Result<()> {
+fn pairs(out: &mut Vec<u8>, count: usize, words: usize) -> io::Result<()> {
     write!(
         out,
         "{count} pairs of a mode list and a representative that it keeps, {words} words\n"
-    )?;
-    Ok(())
+    )
 }
 
 // Counts the representatives that the modes keep, in a line.
@@ -66,7 +64,7 @@ fn representatives(
     n: usize,
     words: usize,
     modes: &[i32],
-) -> Result<usize>
+) -> io::Result<usize>
     ensures { IfOk result (λ count. count ≤ words) }
 {
     let count = kept(group, n, words, modes).map_err(refused)?;
@@ -123,7 +121,7 @@ fn is_representative(group: &Lent<'_>, n: usize, word: &[u8]) -> Result<bool, Re
 }
 
 // As many mode lists keep a word as its orbit has different words.
-pub fn lists(out: &mut Vec<u8>) -> Result<()> {
+pub fn lists(out: &mut Vec<u8>) -> io::Result<()> {
     let torus = group::torus_2d(2, 2).map_err(refused)?;
     for letters in ["XIII", "XXII", "YIIY", "ZZZZ"] {
         keeping(out, &torus.lent(), letters)?;
@@ -131,7 +129,7 @@ pub fn lists(out: &mut Vec<u8>) -> Result<()> {
     Ok(())
 }
 
-fn keeping(out: &mut Vec<u8>, torus: &Lent<'_>, letters: &str) -> Result<()> {
+fn keeping(out: &mut Vec<u8>, torus: &Lent<'_>, letters: &str) -> io::Result<()> {
     let word = pauli_word::from_text(letters.as_bytes())
         .map_err(refused)?
         .word;
@@ -140,8 +138,7 @@ fn keeping(out: &mut Vec<u8>, torus: &Lent<'_>, letters: &str) -> Result<()> {
     write!(
         out,
         "torus 2 by 2, word {letters}: {lists} of 4 mode lists keep it, orbit {size}\n"
-    )?;
-    Ok(())
+    )
 }
 
 fn lists_keeping(torus: &Lent<'_>, word: &[u8]) -> Result<usize, Refusal> {

@@ -3,14 +3,13 @@
 
 mod counts;
 
-use anyhow::Result;
+use std::io;
 use std::io::Write;
 
-fn main(rt: HostRuntime) -> Result<()> {
+fn main(rt: HostRuntime) -> io::Result<()> {
     let mut out = Vec::new(rt.alloc());
     counts::chain(&mut out)?;
     counts::lists(&mut out)?;
     counts::torus(&mut out)?;
-    rt.stdout().write_all(&out)?;
-    Ok(())
+    rt.stdout().write_all(&out)
 }

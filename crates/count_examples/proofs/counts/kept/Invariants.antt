@@ -1,4 +1,4 @@
-use Rattle.std.proofs.Common.{◌-◌, ◌≤◌}
+use Rattle.std.proofs.Common.{◌≤◌}
 use Rattle.count_examples.proofs.counts.kept.Given as goal
 
 abbrev pub invariant-loop-i : goal.invariant-loop-i
