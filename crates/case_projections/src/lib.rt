@@ -30,8 +30,8 @@ pub fn project(
     let Some(lengths) = lists.lengths(rows.count()) else {
         return write!(out, "?");
     };
-    let words = rows.words(lengths.words)?;
-    let wholes = rows.wholes(lengths.coefficients)?;
+    let words = rows.lent_words(lengths.words)?;
+    let wholes = rows.lent_wholes(lengths.coefficients)?;
     let mut projected = Projected::new(*out.allocator(), lengths)?;
     let answer = projected.call(given, table, &words, &wholes);
     projected.print(out, given.n, answer, lists)

@@ -25,8 +25,8 @@ pub fn fold(
     let Some(lengths) = lists.lengths(rows.count()) else {
         return write!(out, "?");
     };
-    let words = rows.words(lengths.words)?;
-    let coefficients = rows.floats(lengths.coefficients)?;
+    let words = rows.lent_words(lengths.words)?;
+    let coefficients = rows.lent_floats(lengths.coefficients)?;
     let mut folded = Folded::new(*out.allocator(), lengths)?;
     let answer = folded.call(given, &words, &coefficients);
     folded.print(out, given.n, answer, lists)

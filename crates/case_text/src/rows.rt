@@ -1,4 +1,8 @@
 // The rows of a sum, as lines put them together: their words, and their coefficients, as floats and as whole numbers.
+ghost use Rattle.std.specs.Prelude.{◌≡◌, IfOk, pos};
+ghost use Rattle.std.specs.Cow.{cow_slice_items};
+ghost use Rattle.case_text.specs.Rows.{front, zero};
+
 use crate::commands::RowsLine;
 use crate::lists::{ROW_BYTES, ROW_ROOM};
 use crate::{fields, hexadecimal, texts};
@@ -47,17 +51,46 @@ impl Rows {
     }
 
     // The first bytes of the words, and zeros after the last.
-    pub fn words(&self, length: usize) -> Result<CowSlice<'_, u8>, AllocError> {
-        filled_up(&self.words, length, 0)
+    pub fn words(&self, length: usize) -> Result<Vec<u8>, AllocError>
+        ensures { IfOk result (λ list. list.items ≡ front 0 length self.now.words.items) }
+    {
+        self.lent_words(length)?.into_owned(*self.words.allocator())
     }
 
     // The first coefficients as floats, and zeros after the last.
-    pub fn floats(&self, length: usize) -> Result<CowSlice<'_, f64>, AllocError> {
-        filled_up(&self.floats, length, 0.0)
+    pub fn floats(&self, length: usize) -> Result<Vec<f64>, AllocError>
+        ensures { IfOk result (λ list. list.items ≡ front zero length self.now.floats.items) }
+    {
+        self.lent_floats(length)?
+            .into_owned(*self.floats.allocator())
     }
 
     // The first coefficients as whole numbers, and zeros after the last.
-    pub fn wholes(&self, length: usize) -> Result<CowSlice<'_, i64>, AllocError> {
+    pub fn wholes(&self, length: usize) -> Result<Vec<i64>, AllocError>
+        ensures { IfOk result (λ list. list.items ≡ front (pos 0) length self.now.wholes.items) }
+    {
+        self.lent_wholes(length)?
+            .into_owned(*self.wholes.allocator())
+    }
+
+    // What `words` answers, lent where it stands in the rows.
+    pub fn lent_words(&self, length: usize) -> Result<CowSlice<'_, u8>, AllocError>
+        ensures { IfOk result (λ list. cow_slice_items list ≡ front 0 length self.now.words.items) }
+    {
+        filled_up(&self.words, length, 0)
+    }
+
+    // What `floats` answers, lent where it stands in the rows.
+    pub fn lent_floats(&self, length: usize) -> Result<CowSlice<'_, f64>, AllocError>
+        ensures { IfOk result (λ list. cow_slice_items list ≡ front zero length self.now.floats.items) }
+    {
+        filled_up(&self.floats, length, 0.0)
+    }
+
+    // What `wholes` answers, lent where it stands in the rows.
+    pub fn lent_wholes(&self, length: usize) -> Result<CowSlice<'_, i64>, AllocError>
+        ensures { IfOk result (λ list. cow_slice_items list ≡ front (pos 0) length self.now.wholes.items) }
+    {
         filled_up(&self.wholes, length, 0)
     }
 
@@ -120,11 +153,9 @@ impl Rows {
 }
 
 // The front of a list, which is lent; or the whole list, copied, and zeros after it.
-fn filled_up<T: Copy>(
-    list: &Vec<T>,
-    length: usize,
-    zero: T,
-) -> Result<CowSlice<'_, T>, AllocError> {
+fn filled_up<T: Copy>(list: &Vec<T>, length: usize, zero: T) -> Result<CowSlice<'_, T>, AllocError>
+    ensures { IfOk result (λ given. cow_slice_items given ≡ front zero length list.now.items) }
+{
     if let Some(front) = list.get(..length) {
         return Ok(CowSlice::Borrowed(front));
     }
@@ -194,4 +225,52 @@ fn whole(text: &[u8]) -> Option<Equal> {
         float: 0.0,
         whole: fields::whole(fields::after_space(text))?,
     })
+}
+
+#[cfg(test)]
+mod tests {
+    use super::*;
+    use std::test::Fail;
+
+    // Three rows with an X at site 0, of the whole number 2: the first of them, and zeros after the last.
+    #[test]
+    fn fronts_of_whole_rows(rt: HostRuntime) -> Result<(), Fail> {
+        let mut rows = Rows::new(rt.alloc());
+        assert!(rt; rows.put(&[1], RowsLine::Wholes(b" 3 2"))?.is_some());
+        let two = rows.words(2 * WORD_BYTES)?;
+        assert_eq!(rt; two.len(), 2 * WORD_BYTES);
+        assert_eq!(rt; two[0], 1);
+        assert_eq!(rt; two[WORD_BYTES], 1);
+        let past = rows.words(ROW_BYTES + 1)?;
+        assert_eq!(rt; past.len(), ROW_BYTES + 1);
+        assert_eq!(rt; past[2 * WORD_BYTES], 1);
+        assert_eq!(rt; past[3 * WORD_BYTES], 0);
+        assert_eq!(rt; past[ROW_BYTES], 0);
+        assert_eq!(rt; rows.wholes(2)?.as_slice(), [2, 2].as_slice());
+        assert_eq!(rt; rows.wholes(5)?.as_slice(), [2, 2, 2, 0, 0].as_slice());
+        assert_eq!(rt; rows.lent_words(2 * WORD_BYTES)?.as_slice(), two.as_slice());
+        assert_eq!(rt; rows.lent_wholes(5)?.as_slice(), [2, 2, 2, 0, 0].as_slice());
+        Ok(())
+    }
+
+    // Two rows of 1.0.
+    #[test]
+    fn fronts_of_rows_of_floats(rt: HostRuntime) -> Result<(), Fail> {
+        let mut rows = Rows::new(rt.alloc());
+        assert!(rt;
+            rows.put(&[1], RowsLine::Floats(b" 2 3ff0000000000000"))?
+                .is_some()
+        );
+        assert_eq!(rt; rows.floats(1)?.as_slice(), [1.0].as_slice());
+        let three = rows.floats(3)?;
+        assert_eq!(rt; three.as_slice(), [1.0, 1.0, 0.0].as_slice());
+        assert_eq!(rt;
+            three.last().map(|x| 1.0 / *x),
+            Some(f64::INFINITY),
+            "not -0.0"
+        );
+        assert_eq!(rt; rows.lent_floats(3)?.as_slice(), [1.0, 1.0, 0.0].as_slice());
+        assert_eq!(rt; rows.wholes(2)?.as_slice(), [0, 0].as_slice());
+        Ok(())
+    }
 }

@@ -27,7 +27,7 @@ pub fn canonicalize(
     let Some(lengths) = lists.lengths(rows.count()) else {
         return write!(out, "?");
     };
-    let words = rows.words(lengths.words)?;
+    let words = rows.lent_words(lengths.words)?;
     let mut answered = Answered::new(*out.allocator(), lengths)?;
     let answer = orbit::canonicalize_words(
         &given.group,
@@ -52,7 +52,7 @@ pub fn in_sector(
     let Some(lengths) = lists.lengths(rows.count()) else {
         return write!(out, "?");
     };
-    let words = rows.words(lengths.words)?;
+    let words = rows.lent_words(lengths.words)?;
     let mut answered = Answered::new(*out.allocator(), lengths)?;
     let answer = momentum::sector_words(
         &given.group,

@@ -1,0 +1,2 @@
+-- The laws of what this crate's contracts say.
+pub mod Promises
