@@ -1,7 +1,9 @@
 // The rows of a sum, as lines put them together: their words, and their coefficients, as floats and as whole numbers.
 ghost use Rattle.std.specs.Prelude.{◌≡◌, IfOk, pos};
 ghost use Rattle.std.specs.Cow.{cow_slice_items};
-ghost use Rattle.case_text.specs.Rows.{front, zero};
+ghost use Rattle.std.specs.Float.{binary64};
+ghost use Rattle.std.specs.Float.Ieee.{of_bits};
+ghost use Rattle.case_text.specs.Rows.{front, words_held, floats_held, wholes_held};
 
 use crate::commands::RowsLine;
 use crate::lists::{ROW_BYTES, ROW_ROOM};
@@ -52,14 +54,14 @@ impl Rows {
 
     // The first bytes of the words, and zeros after the last.
     pub fn words(&self, length: usize) -> Result<Vec<u8>, AllocError>
-        ensures { IfOk result (λ list. list.items ≡ front 0 length self.now.words.items) }
+        ensures { IfOk result (λ list. list.items ≡ front 0 length (words_held self.now)) }
     {
         self.lent_words(length)?.into_owned(*self.words.allocator())
     }
 
     // The first coefficients as floats, and zeros after the last.
     pub fn floats(&self, length: usize) -> Result<Vec<f64>, AllocError>
-        ensures { IfOk result (λ list. list.items ≡ front zero length self.now.floats.items) }
+        ensures { IfOk result (λ list. list.items ≡ front (of_bits binary64 0) length (floats_held self.now)) }
     {
         self.lent_floats(length)?
             .into_owned(*self.floats.allocator())
@@ -67,7 +69,7 @@ impl Rows {
 
     // The first coefficients as whole numbers, and zeros after the last.
     pub fn wholes(&self, length: usize) -> Result<Vec<i64>, AllocError>
-        ensures { IfOk result (λ list. list.items ≡ front (pos 0) length self.now.wholes.items) }
+        ensures { IfOk result (λ list. list.items ≡ front (pos 0) length (wholes_held self.now)) }
     {
         self.lent_wholes(length)?
             .into_owned(*self.wholes.allocator())
@@ -75,21 +77,21 @@ impl Rows {
 
     // What `words` answers, lent where it stands in the rows.
     pub fn lent_words(&self, length: usize) -> Result<CowSlice<'_, u8>, AllocError>
-        ensures { IfOk result (λ list. cow_slice_items list ≡ front 0 length self.now.words.items) }
+        ensures { IfOk result (λ list. cow_slice_items list ≡ front 0 length (words_held self.now)) }
     {
         filled_up(&self.words, length, 0)
     }
 
     // What `floats` answers, lent where it stands in the rows.
     pub fn lent_floats(&self, length: usize) -> Result<CowSlice<'_, f64>, AllocError>
-        ensures { IfOk result (λ list. cow_slice_items list ≡ front zero length self.now.floats.items) }
+        ensures { IfOk result (λ list. cow_slice_items list ≡ front (of_bits binary64 0) length (floats_held self.now)) }
     {
         filled_up(&self.floats, length, 0.0)
     }
 
     // What `wholes` answers, lent where it stands in the rows.
     pub fn lent_wholes(&self, length: usize) -> Result<CowSlice<'_, i64>, AllocError>
-        ensures { IfOk result (λ list. cow_slice_items list ≡ front (pos 0) length self.now.wholes.items) }
+        ensures { IfOk result (λ list. cow_slice_items list ≡ front (pos 0) length (wholes_held self.now)) }
     {
         filled_up(&self.wholes, length, 0)
     }
